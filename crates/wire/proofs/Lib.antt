@@ -1,0 +1,5 @@
+pub mod Outcomes
+pub mod Runs
+pub mod FieldRead
+pub mod FieldText
+pub mod FrameText

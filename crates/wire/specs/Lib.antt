@@ -1,0 +1,4 @@
+pub mod Faults
+pub mod Fields
+pub mod Limits
+pub mod Frames

@@ -1,0 +1,17 @@
+// The wire: words as frames, frames as words, and the slips that carry words out.
+// What a word means, who may say it and what is made of it is left to the crates above.
+mod fault;
+mod frame;
+mod limits;
+mod reader;
+mod word;
+
+pub use fault::FrameFault;
+pub use frame::read_frame;
+pub use limits::FRAME_MAX;
+pub use limits::MAX_ID;
+pub use limits::MAX_KIND;
+pub use limits::MAX_SENDER;
+pub use limits::MAX_VALUE;
+pub use reader::Reader;
+pub use word::Word;
