@@ -87,7 +87,7 @@ pub record Ranges (w : Word) : Type 0 where
   pub kind-high : w .kind ≤ max-kind
   pub value-high : w .value ≤ max-value
 
-within-parts : (low high n : ℕ) → is-within low high n ≡ true → (low ≤ n) × (n ≤ high)
+pub within-parts : (low high n : ℕ) → is-within low high n ≡ true → (low ≤ n) × (n ≤ high)
 within-parts low high n e =
     let p = and-parts (leb low n) (leb n high) e in
     (leb-true low n (p .0), leb-true n high (p .1))
@@ -153,6 +153,10 @@ regroup a b c d e rest = simp append-assoc
 
 lengths : (a b c d e : List ℕ) → length (a ++ (b ++ (c ++ (d ++ e)))) ≡ length a + (length b + (length c + (length d + length e)))
 lengths a b c d e = simp length-append
+
+pub frame-length : (w : Word) → length (frame-of w) ≡ length (field-bytes (w .group) comma) + (length (field-bytes (w .change) comma) + (length (field-bytes (w .sender) comma) + (length (field-bytes (w .kind) comma) + length (field-bytes (w .value) line-feed))))
+unfolding frame-of
+frame-length w = lengths (field-bytes (w .group) comma) (field-bytes (w .change) comma) (field-bytes (w .sender) comma) (field-bytes (w .kind) comma) (field-bytes (w .value) line-feed)
 
 -- five places, each past what stands at the one before
 places-chain : (p a b c d e g h s k v : ℕ) → g ≡ p + a → h ≡ g + b → s ≡ h + c → k ≡ s + d → v ≡ k + e → v ≡ p + (a + (b + (c + (d + e))))

@@ -3,3 +3,6 @@ pub mod Runs
 pub mod FieldRead
 pub mod FieldText
 pub mod FrameText
+pub mod PutAt
+pub mod Lows
+pub mod Ranging

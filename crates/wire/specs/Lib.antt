@@ -2,3 +2,4 @@ pub mod Faults
 pub mod Fields
 pub mod Limits
 pub mod Frames
+pub mod Writes

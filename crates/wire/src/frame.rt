@@ -26,9 +26,11 @@ impl<'a> Reader<'a> {
         Ok((number, place))
     }
 
-    // The word of the frame that begins here, and the place after its line feed.
-    pub fn frame(&self) -> Result<(Word, usize), FrameFault>
+    // The word of the frame that begins here, and the place after its line feed, where the reader then is.
+    pub fn frame(&mut self) -> Result<(Word, usize), FrameFault>
         ensures value { λ r. ⌜ r ≡ frame-at (now (now (self .entry) .bytes)) (now (self .entry) .place) ⌝ }
+        ensures place { λ r. ⌜ now (self .exit) .place ≡ place-after (λ x. x .1) r (now (self .entry) .place) ⌝ }
+        ensures same { λ _. ⌜ now (now (self .exit) .bytes) ≡ now (now (self .entry) .bytes) ⌝ }
     {
         let mut ahead = *self;
         let (group, _) = ahead.ended_field(1, MAX_ID, b',')?;
@@ -43,6 +45,7 @@ impl<'a> Reader<'a> {
             kind: kind as u8,
             value: value as u8,
         };
+        *self = ahead;
         Ok((word, end))
     }
 }
@@ -52,7 +55,8 @@ pub fn read_frame(bytes: &[u8]) -> Result<Word, FrameFault>
     ensures value { λ r. ⌜ r ≡ word-in (now (bytes .entry)) ⌝ }
     ensures an_accepted_frame_is_the_one_its_word_has { λ r. ⌜ Cases r (λ w. (carried w ≡ true) × (now (bytes .entry) ≡ frame-of w)) (λ _. Unit {0}) ⌝ }
 {
-    let (word, end) = Reader::new(bytes).frame()?;
+    let mut reader = Reader::new(bytes);
+    let (word, end) = reader.frame()?;
     if end != bytes.len() {
         return Err(FrameFault::Trailing(end));
     }

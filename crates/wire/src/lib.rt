@@ -3,8 +3,10 @@
 mod fault;
 mod frame;
 mod limits;
+mod number;
 mod reader;
 mod word;
+mod write;
 
 pub use fault::FrameFault;
 pub use frame::read_frame;
@@ -15,3 +17,4 @@ pub use limits::MAX_SENDER;
 pub use limits::MAX_VALUE;
 pub use reader::Reader;
 pub use word::Word;
+pub use write::write_word;

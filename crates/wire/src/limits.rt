@@ -1,6 +1,8 @@
-// The numbers that a frame can carry, field by field. A sender, a kind and a value have the least number 0, 1 and 0.
+// The numbers that a frame can carry, field by field. The least group, change and kind is 1, the least sender and value 0.
+ghost use mathlib.Core.Path.{_≡_};
+ghost use Rattle.wire.specs.Fields.{is-within};
 
-// The largest group and the largest change; both count from 1.
+// The largest group and the largest change.
 pub const MAX_ID: u16 = 65535;
 pub const MAX_SENDER: u16 = 15;
 pub const MAX_KIND: u16 = 5;
@@ -8,3 +10,9 @@ pub const MAX_KIND: u16 = 5;
 pub const MAX_VALUE: u16 = 8;
 // The longest frame, in bytes.
 pub const FRAME_MAX: usize = 19;
+
+pub(crate) fn within(low: u16, high: u16, number: u32) -> bool
+    ensures { λ r. ⌜ r ≡ is-within low high number ⌝ }
+{
+    low as u32 <= number && number <= high as u32
+}

@@ -3,8 +3,9 @@ ghost use mathlib.Core.Path.{_≡_};
 ghost use Prim.Native.Nat.{ℕ, min, _+_, _≤_};
 ghost use lib.ListN.{length};
 ghost use Rattle.std.specs.Results.{Cases};
-ghost use Rattle.wire.specs.Fields.{run, number, is-digit, zero-leads, is-within, field-at, after-byte, place-after};
+ghost use Rattle.wire.specs.Fields.{run, number, is-digit, zero-leads, field-at, after-byte, place-after};
 use crate::fault::FrameFault;
+use crate::limits::within;
 
 // The least number beyond every field's range.
 const BEYOND: u32 = 65536;
@@ -78,12 +79,6 @@ fn zero_leads(bytes: &[u8]) -> bool
         return false;
     }
     bytes[0] == b'0' && is_digit(bytes[1])
-}
-
-fn within(low: u16, high: u16, number: u32) -> bool
-    ensures { λ r. ⌜ r ≡ is-within low high number ⌝ }
-{
-    low as u32 <= number && number <= high as u32
 }
 
 // The number that the longest run of digits at the front writes, or `BEYOND` where it is larger, and the run's length.
