@@ -6,3 +6,6 @@ pub mod FrameText
 pub mod PutAt
 pub mod Lows
 pub mod Ranging
+pub mod InOrder
+pub mod Counting
+pub mod Slipped

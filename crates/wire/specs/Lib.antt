@@ -3,3 +3,4 @@ pub mod Fields
 pub mod Limits
 pub mod Frames
 pub mod Writes
+pub mod Slips

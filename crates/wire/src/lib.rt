@@ -2,9 +2,12 @@
 // What a word means, who may say it and what is made of it is left to the crates above.
 mod fault;
 mod frame;
+mod frames;
 mod limits;
 mod number;
+mod posted;
 mod reader;
+mod slip;
 mod word;
 mod write;
 
@@ -15,6 +18,9 @@ pub use limits::MAX_ID;
 pub use limits::MAX_KIND;
 pub use limits::MAX_SENDER;
 pub use limits::MAX_VALUE;
+pub use posted::KINDS;
+pub use posted::Posted;
 pub use reader::Reader;
+pub use slip::Slip;
 pub use word::Word;
 pub use write::write_word;

@@ -19,7 +19,8 @@ use crate::word::Word;
 
 // How many bytes the word's frame has.
 pub(crate) fn frame_len(word: Word) -> usize
-    ensures { λ r. ⌜ r ≡ length (frame-of word) ⌝ }
+    ensures value { λ r. ⌜ r ≡ length (frame-of word) ⌝ }
+    ensures bound { λ r. ⌜ r ≤ 30 ⌝ }
 {
     width(word.group) + width(word.change) + width(word.sender as u16) + width(word.kind as u16) + width(word.value as u16) + 5
 }

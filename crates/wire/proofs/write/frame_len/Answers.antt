@@ -8,4 +8,7 @@ use Rattle.wire.proofs.write.frame_len.Needs as need
 pub returns : need.returns
 returns c =
     let w = c .args .word in
-    omega (arith, frame-length w, length-push (decimal (w .group)) comma, length-push (decimal (w .change)) comma, length-push (decimal (w .sender)) comma, length-push (decimal (w .kind)) comma, length-push (decimal (w .value)) line-feed)
+    record {
+      value = omega (arith, frame-length w, length-push (decimal (w .group)) comma, length-push (decimal (w .change)) comma, length-push (decimal (w .sender)) comma, length-push (decimal (w .kind)) comma, length-push (decimal (w .value)) line-feed);
+      bound = omega arith;
+    }

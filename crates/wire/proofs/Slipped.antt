@@ -1,0 +1,83 @@
+-- What a slip holds after a word is posted and after it is written. Assumes nothing.
+use mathlib.Core.Path.{_≡_, refl, sym, ap, ap₂, _∙_}
+use mathlib.Core.Bool.{Bool, true, false, cond, _&&_, _||_}
+use mathlib.Core.List.{List, [], _∷_}
+use mathlib.Core.Logic.{_⊎_, inl, inr, ⊎-elim, _≢_}
+use Prim.Native.Nat.{ℕ, zero, suc, _+_, _-_, _*_, _/_, _%_, _^_, _≤_, _<_, max}
+use native.Mathlib.Omega.{arith}
+use native.Mathlib.Nat.{one-mul, div-eq-of-lt}
+use lib.Bits.{bitOr, or-step}
+use lib.Dec.{eqb, lit<}
+use lib.ListN.{length, getD, set}
+use Rattle.std.proofs.shelf.Bits.{or-shr, pow-below, shl-shr, pow-add}
+use Rattle.std.proofs.shelf.Lists.{getD-set-same, getD-set-other}
+use Rattle.std.proofs.shelf.Tests.{eq-eqb, ne-eqb, cases-eq, cases-order}
+use Rattle.std.specs.declared.option.Option.the-variants.{None}
+use Rattle.wire.specs.declared.posted.Posted.{Posted}
+use Rattle.wire.specs.declared.word.Word.{Word}
+use Rattle.wire.specs.Frames.{carried}
+use Rattle.wire.specs.Slips.{has, holds, in-order, if-held, word-of, words-of-kind, words-of, emptied, with-word, One-more, addressed}
+use Rattle.wire.specs.Writes.{range-fault}
+use Rattle.wire.proofs.FrameText.{ranges-carried}
+use Rattle.wire.proofs.Ranging.{none-ranges}
+
+-- a frame can carry the address where a word's own check found no fault
+pub address-sound : (p : Posted) (w : Word) → w ≡ word-of p 1 0 → range-fault w ≡ None → addressed p ≡ true
+unfolding addressed
+address-sound p w is none = ranges-carried (word-of p 1 0) (none-ranges (word-of p 1 0) (ap range-fault (sym is) ∙ none))
+
+-- the address alone decides
+pub same-address : (p q : Posted) → q .group ≡ p .group → q .change ≡ p .change → q .sender ≡ p .sender → addressed p ≡ true → addressed q ≡ true
+unfolding addressed
+same-address p q g c s sound = ap carried (let e : word-of q 1 0 ≡ word-of p 1 0 = cc in e) ∙ sound
+
+pub emptied-none : (p : Posted) → words-of (emptied p) ≡ []
+unfolding words-of words-of-kind
+emptied-none p = refl
+
+or-odd : (a b : ℕ) → bitOr a b % 2 ≡ max (a % 2) (b % 2)
+or-odd a b = let e = or-step a b in omega arith
+
+max-odd : (x y : ℕ) → x < 2 → y < 2 → eqb (max x y) 1 ≡ (eqb x 1 || eqb y 1)
+max-odd x y p q = grind arith
+
+has-or : (m b u : ℕ) → has (bitOr m b) u ≡ (has m u || has b u)
+has-or m b u =
+    ap (λ (x : ℕ). eqb (x % 2) 1) (or-shr m b u)
+    ∙ ap (λ (x : ℕ). eqb x 1) (or-odd (m / 2 ^ u) (b / 2 ^ u))
+    ∙ max-odd (m / 2 ^ u % 2) (b / 2 ^ u % 2) (omega arith) (omega arith)
+
+-- the value v adds 2 to the power v, and so is the one value there
+has-bit : (v u : ℕ) → has (2 ^ v) u ≡ eqb u v
+has-bit v u = ⊎-elim
+  (λ e. ap (λ k. has (2 ^ v) k) e ∙ ap (λ (x : ℕ). eqb (x % 2) 1) (ap (λ (x : ℕ). x / 2 ^ v) (sym (one-mul (2 ^ v))) ∙ shl-shr 1 v) ∙ sym (eq-eqb u v e))
+  (⊎-elim
+    (λ lt.
+      let parts : v ≡ 1 + (v - u - 1) + u = omega arith in
+      let quotient : 2 ^ v / 2 ^ u ≡ 2 ^ (1 + (v - u - 1)) = ap (λ k. 2 ^ k / 2 ^ u) parts ∙ ap (λ (x : ℕ). x / 2 ^ u) (pow-add 2 (1 + (v - u - 1)) u) ∙ shl-shr (2 ^ (1 + (v - u - 1))) u in
+      let even : 2 ^ (1 + (v - u - 1)) ≡ 2 * 2 ^ (v - u - 1) = pow-add 2 1 (v - u - 1) in
+      let odd : (2 ^ v / 2 ^ u % 2 ≡ 1) → ⊥ = λ o. omega arith in
+      ne-eqb (2 ^ v / 2 ^ u % 2) 1 odd ∙ sym (ne-eqb u v (λ e. omega arith)))
+    (λ gt.
+      let none : 2 ^ v / 2 ^ u ≡ 0 = div-eq-of-lt (pow-below v u gt) in
+      ap (λ (x : ℕ). eqb (x % 2) 1) none ∙ sym (ne-eqb u v (λ e. omega arith))))
+  (cases-order u v)
+
+-- with one word more on it, a slip holds that word and those it held
+pub word-added : (p : Posted) (kind value : ℕ) → 1 ≤ kind → kind ≤ 5 → length (p .kinds) ≡ 5 → One-more p (with-word p kind value) kind value
+word-added p kind value low high five k v l h = ⊎-elim
+  (λ e. 
+    let index : k - 1 ≡ kind - 1 = omega arith in
+    let m = getD (p .kinds) (kind - 1) 0 in
+    ap (λ i. has (getD (set (p .kinds) (kind - 1) (bitOr m (2 ^ value))) i 0) v) index
+    ∙ ap (λ s. has s v) (getD-set-same (p .kinds) (kind - 1) (bitOr m (2 ^ value)) 0 (omega arith))
+    ∙ has-or m (2 ^ value) v
+    ∙ ap₂ _||_ (ap (λ i. has (getD (p .kinds) i 0) v) (sym index)) (has-bit value v ∙ sym (ap (λ b. b && eqb v value) (eq-eqb k kind e))))
+  (λ ne.
+    ap (λ s. has s v) (getD-set-other (p .kinds) (kind - 1) (k - 1) (bitOr (getD (p .kinds) (kind - 1) 0) (2 ^ value)) 0 (λ e. ne (omega arith)))
+    ∙ sym (ap (λ b. holds p k v || (b && eqb v value)) (ne-eqb k kind ne) ∙ or-none (holds p k v)))
+  (cases-eq k kind)
+  where
+    or-none : (b : Bool) → (b || false) ≡ b
+    or-none true = refl
+    or-none false = refl

@@ -1,0 +1,34 @@
+use mathlib.Core.Path.{_≡_, refl, sym, ap, _∙_}
+use Prim.Native.Nat.{_≤_}
+use native.Mathlib.Omega.{arith}
+use lib.Dec.{leb}
+use lib.ListN.{length, getD}
+use Rattle.std.specs.declared.result.Result.the-variants.{Ok, Err}
+use Rattle.std.proofs.shelf.Tests.{cond-true, le-leb}
+use Rattle.wire.specs.Faults.{fault}
+use Rattle.wire.specs.Slips.{frames-of, words-of}
+use Rattle.wire.specs.Writes.{zero-filled}
+use Rattle.wire.proofs.PutAt.{put-and-clear, zero-behind}
+use Rattle.wire.proofs.Slipped.{same-address, emptied-none}
+use Rattle.wire.proofs.slip.Slip.write.Needs as need
+
+pub ghost-self : need.ghost-self
+ghost-self c =
+    let e = c .none-posted-self .ensures in
+    (same-address (c .args .self .now .posted) (c .none-posted-self .result) (ap (λ p. p .group) e) (ap (λ p. p .change) e) (ap (λ p. p .sender) e) (c .args .self .now .sound), tt)
+
+pub returns : need.returns
+returns c =
+    let bytes = frames-of (c .args .self .now .posted) in
+    let room = length (c .args .buf .now) in
+    let len : c .put-frames-end .result ≡ length bytes = omega arith in
+    let fits : length bytes ≤ room = omega arith in
+    let written : c .clear-from .last .buf ≡ zero-filled bytes room =
+        put-and-clear bytes (c .put-frames-end .result) (c .args .buf .now) (c .put-frames-end .last .buf) (c .clear-from .last .buf) (c .put-frames-end .ensures .buffer) (c .put-frames-end .ensures .value) (omega arith) (c .clear-from .ensures) in
+    record {
+      value = ap Ok len ∙ sym (cond-true (leb (length bytes) room) (Ok (length bytes)) (Err (fault 20 0)) (le-leb (length bytes) room fits));
+      buffer = written;
+      posted = c .none-posted-self .ensures;
+      a-written-slip-is-empty = ap words-of (c .none-posted-self .ensures) ∙ emptied-none (c .args .self .now .posted);
+      no-byte-behind-is-other-than-zero = λ k le. ap (λ b. getD b k 0) written ∙ zero-behind bytes room k (omega arith);
+    }
