@@ -180,43 +180,43 @@ module _ (xs : List ℕ) (p : ℕ) (w : Word) (r : Ranges w) (rest : List ℕ) (
       let v = ended-reads xs _ (w .value) 0 max-value line-feed rest (k .1) refl (omega (arith, r .value-high)) (omega arith) (r .value-high) in
       rw (g .0) (rw (h .0) (rw (s .0) (rw (k .0) (rw (v .0) (ap (λ n. Ok (w, n)) (simp length-append (omega arith)))))))
 
+-- five fields that are read one after the other are the bytes of their word
+module _ (xs : List ℕ) (p : ℕ) (g c s k v : ℕ × ℕ) where
+  read-word : Word
+  read-word = record { group = g .0; change = c .0; sender = s .0; kind = k .0; value = v .0 }
+
+  fields-are : ended-field xs p 1 max-id comma ≡ Ok g → ended-field xs (g .1) 1 max-id comma ≡ Ok c → ended-field xs (c .1) 0 max-sender comma ≡ Ok s → ended-field xs (s .1) 1 max-kind comma ≡ Ok k → ended-field xs (k .1) 0 max-value line-feed ≡ Ok v
+      → Ranges read-word × (drop p xs ≡ frame-of read-word ++ drop (v .1) xs) × (v .1 ≡ p + length (frame-of read-word))
+  unfolding frame-of read-word
+  fields-are ge ce se ke ve =
+      let a = field-bytes (g .0) comma in
+      let b = field-bytes (c .0) comma in
+      let d = field-bytes (s .0) comma in
+      let e = field-bytes (k .0) comma in
+      let f = field-bytes (v .0) line-feed in
+      let gs = ended-is xs p 1 max-id comma g (lit< tt) ge in
+      let cs = ended-is xs (g .1) 1 max-id comma c (lit< tt) ce in
+      let ss = ended-is xs (c .1) 0 max-sender comma s (lit< tt) se in
+      let ks = ended-is xs (s .1) 1 max-kind comma k (lit< tt) ke in
+      let vs = ended-is xs (k .1) 0 max-value line-feed v (lit< tt) ve in
+      (
+        record { group-low = gs .2; group-high = gs .3; change-low = cs .2; change-high = cs .3; sender-high = ss .3; kind-low = ks .2; kind-high = ks .3; value-high = vs .3 },
+        gs .0 ∙ ap (λ l. a ++ l) (cs .0 ∙ ap (λ l. b ++ l) (ss .0 ∙ ap (λ l. d ++ l) (ks .0 ∙ ap (λ l. e ++ l) (vs .0)))) ∙ sym (regroup a b d e f (drop (v .1) xs)),
+        places-chain p (length a) (length b) (length d) (length e) (length f) (g .1) (c .1) (s .1) (k .1) (v .1) (gs .1) (cs .1) (ss .1) (ks .1) (vs .1) ∙ ap (λ n. p + n) (sym (lengths a b d e f)),
+      )
+
 -- what is read as a word is the word's bytes
 pub frame-is : (xs : List ℕ) (p : ℕ) (x : Word × ℕ) → frame-at xs p ≡ Ok x → Ranges (x .0) × (drop p xs ≡ frame-of (x .0) ++ drop (x .1) xs) × (x .1 ≡ p + length (frame-of (x .0)))
-unfolding frame-at frame-of
+unfolding frame-at read-word
 frame-is xs p x so =
     let g = ok-then (ended-field xs p 1 max-id comma) _ x so in
     let c = ok-then (ended-field xs (g .0 .1) 1 max-id comma) _ x (g .2) in
     let s = ok-then (ended-field xs (c .0 .1) 0 max-sender comma) _ x (c .2) in
     let k = ok-then (ended-field xs (s .0 .1) 1 max-kind comma) _ x (s .2) in
     let v = ok-then (ended-field xs (k .0 .1) 0 max-value line-feed) _ x (k .2) in
-    let w : Word = record { group = g .0 .0; change = c .0 .0; sender = s .0 .0; kind = k .0 .0; value = v .0 .0 } in
-    let is : (w, v .0 .1) ≡ x = ok-same (w, v .0 .1) x (v .2) in
-    let gs = ended-is xs p 1 max-id comma (g .0) (lit< tt) (g .1) in
-    let cs = ended-is xs (g .0 .1) 1 max-id comma (c .0) (lit< tt) (c .1) in
-    let ss = ended-is xs (c .0 .1) 0 max-sender comma (s .0) (lit< tt) (s .1) in
-    let ks = ended-is xs (s .0 .1) 1 max-kind comma (k .0) (lit< tt) (k .1) in
-    let vs = ended-is xs (k .0 .1) 0 max-value line-feed (v .0) (lit< tt) (v .1) in
-    let ranges : Ranges w = record {
-          group-low = gs .2;
-          group-high = gs .3;
-          change-low = cs .2;
-          change-high = cs .3;
-          sender-high = ss .3;
-          kind-low = ks .2;
-          kind-high = ks .3;
-          value-high = vs .3;
-        } in
-    let bytes : drop p xs ≡ frame-of w ++ drop (v .0 .1) xs =
-        gs .0
-        ∙ ap (λ l. field-bytes (w .group) comma ++ l) (cs .0
-        ∙ ap (λ l. field-bytes (w .change) comma ++ l) (ss .0
-        ∙ ap (λ l. field-bytes (w .sender) comma ++ l) (ks .0
-        ∙ ap (λ l. field-bytes (w .kind) comma ++ l) (vs .0))))
-        ∙ sym (regroup (field-bytes (w .group) comma) (field-bytes (w .change) comma) (field-bytes (w .sender) comma) (field-bytes (w .kind) comma) (field-bytes (w .value) line-feed) (drop (v .0 .1) xs)) in
-    let place : v .0 .1 ≡ p + length (frame-of w) = 
-        places-chain p _ _ _ _ _ _ _ _ _ _ (gs .1) (cs .1) (ss .1) (ks .1) (vs .1)
-        ∙ ap (λ n. p + n) (sym (lengths (field-bytes (w .group) comma) (field-bytes (w .change) comma) (field-bytes (w .sender) comma) (field-bytes (w .kind) comma) (field-bytes (w .value) line-feed))) in
-    subst (λ (y : Word × ℕ). Ranges (y .0) × (drop p xs ≡ frame-of (y .0) ++ drop (y .1) xs) × (y .1 ≡ p + length (frame-of (y .0)))) is (ranges, bytes, place)
+    let is : (read-word xs p (g .0) (c .0) (s .0) (k .0) (v .0), v .0 .1) ≡ x = ok-same (read-word xs p (g .0) (c .0) (s .0) (k .0) (v .0), v .0 .1) x (v .2) in
+    subst (λ (y : Word × ℕ). Ranges (y .0) × (drop p xs ≡ frame-of (y .0) ++ drop (y .1) xs) × (y .1 ≡ p + length (frame-of (y .0)))) is
+    (fields-are xs p (g .0) (c .0) (s .0) (k .0) (v .0) (g .1) (c .1) (s .1) (k .1) (v .1))
 
 -- that frame reads back as the word
 pub word-reads : (w : Word) → Ranges w → word-in (frame-of w) ≡ Ok w
@@ -241,3 +241,7 @@ word-is xs w so =
 pub accepted-is : (r : Result Word FrameFault) (xs : List ℕ) → r ≡ word-in xs → Cases r (λ w. (carried w ≡ true) × (xs ≡ frame-of w)) (λ _. Unit {0})
 accepted-is (Ok w) xs e = let t = word-is xs w (sym e) in (ranges-carried w (t .0), t .1)
 accepted-is (Err f) xs e = tt
+
+pub accepted-once : (r : Result Word FrameFault) (xs : List ℕ) → r ≡ word-in xs → Cases r (λ w. (ys : List ℕ) → word-in ys ≡ Ok w → ys ≡ xs) (λ _. Unit {0})
+accepted-once (Ok w) xs e = λ ys f. word-is ys w f .1 ∙ sym (word-is xs w (sym e) .1)
+accepted-once (Err f) xs e = tt

@@ -9,3 +9,4 @@ pub mod Ranging
 pub mod InOrder
 pub mod Counting
 pub mod Slipped
+pub mod MarkedCases

@@ -5,9 +5,9 @@ use mathlib.Core.List.{List, [], _∷_}
 use mathlib.Core.Logic.{_⊎_, inl, inr, ⊎-elim, _≢_}
 use Prim.Native.Nat.{ℕ, zero, suc, _+_, _-_, _*_, _/_, _%_, _^_, _≤_, _<_, max}
 use native.Mathlib.Omega.{arith}
-use native.Mathlib.Nat.{one-mul, div-eq-of-lt}
+use native.Mathlib.Nat.{one-mul, div-eq-of-lt, mul-le-mul-left}
 use lib.Bits.{bitOr, or-step}
-use lib.Dec.{eqb, lit<}
+use lib.Dec.{eqb, lit≤}
 use lib.ListN.{length, getD, set}
 use Rattle.std.proofs.shelf.Bits.{or-shr, pow-below, shl-shr, pow-add}
 use Rattle.std.proofs.shelf.Lists.{getD-set-same, getD-set-other}
@@ -16,9 +16,11 @@ use Rattle.std.specs.declared.option.Option.the-variants.{None}
 use Rattle.wire.specs.declared.posted.Posted.{Posted}
 use Rattle.wire.specs.declared.word.Word.{Word}
 use Rattle.wire.specs.Frames.{carried}
-use Rattle.wire.specs.Slips.{has, holds, in-order, if-held, word-of, words-of-kind, words-of, emptied, with-word, One-more, addressed}
+use Rattle.wire.specs.Slips.{has, holds, in-order, if-held, word-of, words-of-kind, words-of, emptied, with-word, One-more, Reads-back, frames-of, addressed}
 use Rattle.wire.specs.Writes.{range-fault}
-use Rattle.wire.proofs.FrameText.{ranges-carried}
+use Rattle.wire.specs.Limits.{max-kind, max-value, frame-max}
+use Rattle.wire.proofs.Counting.{frames-weigh}
+use Rattle.wire.proofs.FrameText.{Ranges, carried-ranges, ranges-carried, frame-max-length, word-reads}
 use Rattle.wire.proofs.Ranging.{none-ranges}
 
 -- a frame can carry the address where a word's own check found no fault
@@ -30,6 +32,21 @@ address-sound p w is none = ranges-carried (word-of p 1 0) (none-ranges (word-of
 pub same-address : (p q : Posted) → q .group ≡ p .group → q .change ≡ p .change → q .sender ≡ p .sender → addressed p ≡ true → addressed q ≡ true
 unfolding addressed
 same-address p q g c s sound = ap carried (let e : word-of q 1 0 ≡ word-of p 1 0 = cc in e) ∙ sound
+
+-- with a sound address, every word that a slip can hold can be carried
+pub word-ranges : (p : Posted) (k v : ℕ) → addressed p ≡ true → 1 ≤ k → k ≤ max-kind → v ≤ max-value → Ranges (word-of p k v)
+unfolding addressed
+word-ranges p k v sound l h u =
+    let r = carried-ranges (word-of p 1 0) sound in
+    record { group-low = r .group-low; group-high = r .group-high; change-low = r .change-low; change-high = r .change-high; sender-high = r .sender-high; kind-low = l; kind-high = h; value-high = u }
+
+pub reads-back : (p : Posted) → addressed p ≡ true → Reads-back p
+reads-back p sound k v l h u = word-reads (word-of p k v) (word-ranges p k v sound l h u)
+
+pub frames-short : (p : Posted) → addressed p ≡ true → length (frames-of p) ≤ length (words-of p) * frame-max
+frames-short p sound =
+    let one = frame-max-length (word-of p 1 0) (word-ranges p 1 0 sound (lit≤ tt) (lit≤ tt) (lit≤ tt)) in
+    rw (frames-weigh p) (mul-le-mul-left (length (words-of p)) one)
 
 pub emptied-none : (p : Posted) → words-of (emptied p) ≡ []
 unfolding words-of words-of-kind

@@ -4,3 +4,4 @@ pub mod Limits
 pub mod Frames
 pub mod Writes
 pub mod Slips
+pub mod Marked

@@ -12,7 +12,7 @@ use Rattle.std.specs.declared.result.Result.the-variants.{Ok, Err}
 use Rattle.wire.specs.declared.fault.FrameFault.{FrameFault}
 use Rattle.wire.specs.declared.posted.Posted.{Posted}
 use Rattle.wire.specs.declared.word.Word.{Word}
-use Rattle.wire.specs.Frames.{frame-of, carried}
+use Rattle.wire.specs.Frames.{frame-of, word-in, carried}
 use Rattle.wire.specs.Limits.{max-kind, max-value}
 use Rattle.wire.specs.Writes.{range-fault, unless}
 
@@ -73,6 +73,13 @@ abbrev pub slip-made : ℕ → ℕ → ℕ → Result Posted FrameFault
 slip-made g c s = unless (range-fault (word-of (none-posted g c s) 1 0)) (Ok (none-posted g c s))
 
 -- an answer, by a part of what it holds
+abbrev pub mapped-both : {X Y D E : Type 0} → (X → Y) → (D → E) → Result X D → Result Y E
+mapped-both f g (Ok x) = Ok (f x)
+mapped-both f g (Err d) = Err (g d)
+
 abbrev pub mapped : {X Y E : Type 0} → (X → Y) → Result X E → Result Y E
-mapped f (Ok x) = Ok (f x)
-mapped f (Err e) = Err e
+mapped f r = mapped-both f (λ e. e) r
+
+-- every word that a slip can hold has a frame that reads back as it
+abbrev pub Reads-back : Posted → Type 0
+Reads-back p = (k v : ℕ) → 1 ≤ k → k ≤ max-kind → v ≤ max-value → word-in (frame-of (word-of p k v)) ≡ Ok (word-of p k v)

@@ -1,10 +1,13 @@
 // Reads a frame to the word it carries.
 ghost use mathlib.Core.Path.{_≡_};
 ghost use mathlib.Core.Bool.{true};
+ghost use mathlib.Core.List.{List};
 ghost use Prim.Native.Nat.{ℕ, _≤_};
 ghost use Rattle.std.specs.Results.{Cases};
+ghost use Rattle.std.specs.declared.result.Result.the-variants.{Ok};
 ghost use Rattle.wire.specs.Fields.{place-after};
 ghost use Rattle.wire.specs.Frames.{ended-field, frame-at, word-in, frame-of, carried};
+ghost use Rattle.wire.specs.Marked.{Marked-cases-hold};
 use crate::fault::FrameFault;
 use crate::limits::MAX_ID;
 use crate::limits::MAX_KIND;
@@ -54,6 +57,8 @@ impl<'a> Reader<'a> {
 pub fn read_frame(bytes: &[u8]) -> Result<Word, FrameFault>
     ensures value { λ r. ⌜ r ≡ word-in (now (bytes .entry)) ⌝ }
     ensures an_accepted_frame_is_the_one_its_word_has { λ r. ⌜ Cases r (λ w. (carried w ≡ true) × (now (bytes .entry) ≡ frame-of w)) (λ _. Unit {0}) ⌝ }
+    ensures each_word_has_one_frame { λ r. ⌜ Cases r (λ w. (xs : List ℕ) → word-in xs ≡ Ok w → xs ≡ now (bytes .entry)) (λ _. Unit {0}) ⌝ }
+    ensures the_marked_cases_hold { λ _. ⌜ Marked-cases-hold ⌝ }
 {
     let mut reader = Reader::new(bytes);
     let (word, end) = reader.frame()?;

@@ -2,11 +2,11 @@
 ghost use mathlib.Core.Path.{_≡_};
 ghost use mathlib.Core.Bool.{true, cond};
 ghost use mathlib.Core.List.{[]};
-ghost use Prim.Native.Nat.{ℕ, _≤_};
+ghost use Prim.Native.Nat.{ℕ, _*_, _≤_};
 ghost use lib.ListN.{length, getD};
 ghost use Rattle.std.specs.Results.{Cases, isOk};
 ghost use Rattle.std.specs.declared.result.Result.the-variants.{Ok};
-ghost use Rattle.wire.specs.Slips.{words-of, word-of, frames-of, addressed, slip-made, with-word, One-more, emptied, mapped};
+ghost use Rattle.wire.specs.Slips.{words-of, word-of, frames-of, addressed, slip-made, with-word, One-more, Reads-back, emptied, mapped, mapped-both};
 ghost use Rattle.wire.specs.Writes.{range-fault, unless, fitting, buffer-after};
 use crate::fault::FrameFault;
 use crate::frames;
@@ -76,6 +76,8 @@ impl Slip {
         ensures buffer { λ r. ⌜ now (buf .exit) ≡ buffer-after (frames-of (now (self .entry) .posted)) r (now (buf .entry)) ⌝ }
         ensures posted { λ r. ⌜ now (self .exit) .posted ≡ cond (isOk r) (emptied (now (self .entry) .posted)) (now (self .entry) .posted) ⌝ }
         ensures a_written_slip_is_empty { λ r. ⌜ Cases r (λ _. words-of (now (self .exit) .posted) ≡ []) (λ _. Unit {0}) ⌝ }
+        ensures each_frame_reads_back_as_its_word { λ r. ⌜ Cases r (λ _. Reads-back (now (self .entry) .posted)) (λ _. Unit {0}) ⌝ }
+        ensures at_most_19_bytes_for_each_word { λ r. ⌜ Cases r (λ n. n ≤ length (words-of (now (self .entry) .posted)) * 19) (λ _. Unit {0}) ⌝ }
         ensures no_byte_behind_is_other_than_zero { λ r. ⌜ Cases r (λ n. (k : ℕ) → n ≤ k → getD (now (buf .exit)) k 0 ≡ 0) (λ _. Unit {0}) ⌝ }
     {
         let posted = self.posted;
@@ -86,5 +88,17 @@ impl Slip {
         clear_from(buf, end);
         self.posted = posted::none_posted(posted.group, posted.change, posted.sender);
         Ok(end)
+    }
+
+    // Writes the slip and lets it go; or hands it back as it was, with the refusal.
+    pub fn write_out(mut self, buf: &mut [u8]) -> Result<usize, (Slip, FrameFault)>
+        ensures value { λ r. ⌜ mapped-both (λ n. n) (λ e. e .1) r ≡ fitting (frames-of (self .posted)) (length (now (buf .entry))) ⌝ }
+        ensures buffer { λ r. ⌜ now (buf .exit) ≡ buffer-after (frames-of (self .posted)) (mapped-both (λ n. n) (λ e. e .1) r) (now (buf .entry)) ⌝ }
+        ensures handed_back { λ r. ⌜ Cases r (λ _. Unit {0}) (λ e. e .0 .posted ≡ self .posted) ⌝ }
+    {
+        match self.write(buf) {
+            Ok(len) => Ok(len),
+            Err(fault) => Err((self, fault)),
+        }
     }
 }

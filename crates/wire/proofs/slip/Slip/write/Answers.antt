@@ -9,7 +9,7 @@ use Rattle.wire.specs.Faults.{fault}
 use Rattle.wire.specs.Slips.{frames-of, words-of}
 use Rattle.wire.specs.Writes.{zero-filled}
 use Rattle.wire.proofs.PutAt.{put-and-clear, zero-behind}
-use Rattle.wire.proofs.Slipped.{same-address, emptied-none}
+use Rattle.wire.proofs.Slipped.{same-address, emptied-none, reads-back, frames-short}
 use Rattle.wire.proofs.slip.Slip.write.Needs as need
 
 pub ghost-self : need.ghost-self
@@ -30,5 +30,7 @@ returns c =
       buffer = written;
       posted = c .none-posted-self .ensures;
       a-written-slip-is-empty = ap words-of (c .none-posted-self .ensures) ∙ emptied-none (c .args .self .now .posted);
+      each-frame-reads-back-as-its-word = reads-back (c .args .self .now .posted) (c .args .self .now .sound);
+      at-most-19-bytes-for-each-word = omega (arith, frames-short (c .args .self .now .posted) (c .args .self .now .sound));
       no-byte-behind-is-other-than-zero = λ k le. ap (λ b. getD b k 0) written ∙ zero-behind bytes room k (omega arith);
     }
