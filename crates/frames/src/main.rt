@@ -23,7 +23,10 @@ fn tell(out: &mut impl Write, number: u64, answer: Result<Word, FrameFault>) -> 
                 kind,
                 value,
             } = word;
-            writeln!(out, "{number}: word group={group} change={change} sender={sender} kind={kind} value={value}")
+            writeln!(
+                out,
+                "{number}: word group={group} change={change} sender={sender} kind={kind} value={value}"
+            )
         }
         Err(fault) => {
             let refusal = fault.refusal();

@@ -57,9 +57,19 @@ module _ (p : Posted) where
   -- every frame of a slip has the same length
   same-length : (k v : ℕ) → k < 10 → v < 10 → length (frame-of (word-of p k v)) ≡ length (frame-of (word-of p 1 0))
   same-length k v kh vh =
-      omega (arith, frame-length (word-of p k v), frame-length (word-of p 1 0),
-        length-push (decimal k) comma, length-push (decimal v) line-feed, length-push (decimal 1) comma, length-push (decimal 0) line-feed,
-        width-last k kh, width-last v vh, width-last 1 (lit< tt), width-last 0 (lit< tt))
+      omega (
+        arith,
+        frame-length (word-of p k v),
+        frame-length (word-of p 1 0),
+        length-push (decimal k) comma,
+        length-push (decimal v) line-feed,
+        length-push (decimal 1) comma,
+        length-push (decimal 0) line-feed,
+        width-last k kh,
+        width-last v vh,
+        width-last 1 (lit< tt),
+        width-last 0 (lit< tt),
+      )
 
   length-held : (b : Bool) (w : Word) → length (joined frame-of (cond b (w ∷ []) [])) ≡ length (cond b (w ∷ []) []) * length (frame-of w)
   length-held true w = ap length (append-nil (frame-of w)) ∙ sym (one-mul (length (frame-of w)))
@@ -84,3 +94,10 @@ module _ (p : Posted) where
 
 pub ones-of-nine : (m : ℕ) → ones (m % 512) ≤ 9
 ones-of-nine m = ones-le 9 (m % 512) (mod-below m 512 (lit< tt))
+
+-- nine values of five kinds
+pub words-le : (p : Posted) → length (words-of p) ≤ 45
+unfolding words-of
+words-le p =
+    let m = λ (i : ℕ). ones-of-nine (getD (p .kinds) i 0) in
+    omega (arith, count-more p 0, count-more p 1, count-more p 2, count-more p 3, count-more p 4, m 0, m 1, m 2, m 3, m 4)

@@ -44,8 +44,8 @@ module _ (xs : List ℕ) (p v n low high : ℕ) (value : v ≡ min (number (rest
     pub field-zero : zero-leads (rest xs p) ≡ true → Err (fault 12 p) ≡ field-at xs p low high
     unfolding field-at
     field-zero z = sym (
-      cond-false (eqb (run (drop p xs)) 0) _ _ (ne-eqb (run (drop p xs)) 0 (λ e. some (long ∙ e)))
-      ∙ cond-true (zero-leads (drop p xs)) _ _ (ap zero-leads (sym (take-rest xs p)) ∙ z))
+        cond-false (eqb (run (drop p xs)) 0) _ _ (ne-eqb (run (drop p xs)) 0 (λ e. some (long ∙ e)))
+        ∙ cond-true (zero-leads (drop p xs)) _ _ (ap zero-leads (sym (take-rest xs p)) ∙ z))
 
     module _ (plain : zero-leads (rest xs p) ≡ false) (low-fits : low < 65536) (high-fits : high < 65536) where
       by-range : field-at xs p low high ≡ cond (is-within low high (number (drop p xs))) (Ok (number (drop p xs), p + run (drop p xs))) (Err (fault 13 p))
@@ -61,8 +61,7 @@ module _ (xs : List ℕ) (p v n low high : ℕ) (value : v ≡ min (number (rest
       field-good in-range =
           let l : low ≤ v = leb-true low v (and-parts (leb low v) (leb v high) in-range .0) in
           let h : v ≤ high = leb-true v high (and-parts (leb low v) (leb v high) in-range .1) in
-          let same : number (drop p xs) ≡ v = omega (arith, says) in
-          (
+          let same : number (drop p xs) ≡ v = omega (arith, says) in (
             sym (by-range ∙ cond-true (is-within low high (number (drop p xs))) _ _ (ap (is-within low high) same ∙ in-range) ∙ ap₂ (λ x y. Ok (x, p + y)) same (sym long)),
             l,
             h,

@@ -54,12 +54,12 @@ first-of-take n xs h = getD-take n xs 0 0 h
 -- a number in base ten does not begin with a zero that another digit follows
 plain-decimal : (n : ℕ) (rest : List ℕ) → n < 2 ^ 64 → is-digit (getD rest 0 0) ≡ false → zero-leads (decimal n ++ rest) ≡ false
 plain-decimal n rest h stop = ⊎-elim
-  (λ z. and-right (eqb (getD (decimal n ++ rest) 0 0) 48) (is-digit (getD (decimal n ++ rest) 1 0))
+    (λ z. and-right (eqb (getD (decimal n ++ rest) 0 0) 48) (is-digit (getD (decimal n ++ rest) 1 0))
     (ap (λ ds. is-digit (getD (ds ++ rest) 1 0)) (ap decimal z ∙ decimal-digit 0 (lit< tt)) ∙ stop))
-  (λ nz. and-left (eqb (getD (decimal n ++ rest) 0 0) 48) (is-digit (getD (decimal n ++ rest) 1 0))
+    (λ nz. and-left (eqb (getD (decimal n ++ rest) 0 0) 48) (is-digit (getD (decimal n ++ rest) 1 0))
     (ne-eqb (getD (decimal n ++ rest) 0 0) 48
-      (λ e. omega (arith, first-decimal n (omega arith) h, getD-append-left (decimal n) rest 0 0 (decimal-some n h)))))
-  (cases-eq n 0)
+    (λ e. omega (arith, first-decimal n (omega arith) h, getD-append-left (decimal n) rest 0 0 (decimal-some n h)))))
+    (cases-eq n 0)
 
 module _ (xs : List ℕ) (p n low high : ℕ) where
   pub field-reads : (rest : List ℕ) → drop p xs ≡ decimal n ++ rest → is-digit (getD rest 0 0) ≡ false → n < 2 ^ 64 → low ≤ n → n ≤ high → field-at xs p low high ≡ Ok (n, p + length (decimal n))
@@ -67,12 +67,12 @@ module _ (xs : List ℕ) (p n low high : ℕ) where
   field-reads rest at stop h l u =
       let long : run (drop p xs) ≡ length (decimal n) = ap run at ∙ run-digits (decimal n) rest (digits-decimal own n h) stop in
       let said : number (drop p xs) ≡ n =
-          ap₂ (λ k s. value-of (take k s)) long at ∙ ap value-of (take-at (decimal n) rest (length (decimal n)) refl) ∙ value-decimal own n h in
+      ap₂ (λ k s. value-of (take k s)) long at ∙ ap value-of (take-at (decimal n) rest (length (decimal n)) refl) ∙ value-decimal own n h in
       let some = decimal-some n h in
       cond-false (eqb (run (drop p xs)) 0) _ _ (ne-eqb (run (drop p xs)) 0 (λ e. omega arith))
       ∙ cond-false (zero-leads (drop p xs)) _ _ (ap zero-leads at ∙ plain-decimal n rest h stop)
       ∙ cond-true (is-within low high (number (drop p xs))) _ _
-        (ap (is-within low high) said ∙ and-from (leb low n) (leb n high) (le-leb low n l) (le-leb n high u))
+      (ap (is-within low high) said ∙ and-from (leb low n) (leb n high) (le-leb low n l) (le-leb n high u))
       ∙ ap₂ (λ x y. Ok (x, p + y)) said long
 
   -- an accepted field is the number in base ten
@@ -91,10 +91,9 @@ module _ (xs : List ℕ) (p n low high : ℕ) where
       let ds = take (run r) r in
       let long : length ds ≡ run r = length-take-le (run r) r (leading-le-length is-digit r) in
       let first : getD ds 0 0 ≡ 48 → length ds ≡ 1 = λ z.
-          let zero-first : eqb (getD r 0 0) 48 ≡ true = eq-eqb (getD r 0 0) 48 (sym (first-of-take (run r) r some) ∙ z) in
-          ⊎-elim (λ f. let q = both-ways (eqb (getD r 0 0) 48) f zero-first in absurd q) (λ f. omega (arith, second-of-run r f)) (and-cases (eqb (getD r 0 0) 48) (is-digit (getD r 1 0)) (b .0)) in
-      let text : decimal n ≡ ds = ap decimal (sym said) ∙ decimal-value own ds (digits-of-run r) (omega arith) first (omega arith) in
-      (
+      let zero-first : eqb (getD r 0 0) 48 ≡ true = eq-eqb (getD r 0 0) 48 (sym (first-of-take (run r) r some) ∙ z) in
+      ⊎-elim (λ f. let q = both-ways (eqb (getD r 0 0) 48) f zero-first in absurd q) (λ f. omega (arith, second-of-run r f)) (and-cases (eqb (getD r 0 0) 48) (is-digit (getD r 1 0)) (b .0)) in
+      let text : decimal n ≡ ds = ap decimal (sym said) ∙ decimal-value own ds (digits-of-run r) (omega arith) first (omega arith) in (
         sym (take-append-drop (run r) r) ∙ ap₂ _++_ (sym text) (drop-drop (run r) p xs ∙ ap (λ k. drop k xs) ends),
         sym ends ∙ ap (λ k. p + k) (sym long ∙ ap length (sym text)),
         omega arith,

@@ -25,19 +25,16 @@ use Rattle.wire.proofs.FieldText.{field-reads, field-is}
 module _ (xs : List ℕ) (q b : ℕ) where
   byte-stands : (rest : List ℕ) → drop q xs ≡ b ∷ rest → stands xs q b ≡ true
   byte-stands rest at = and-from (ltb q (length xs)) (eqb (getD xs q 0) b)
-    (lt-ltb q (length xs) (omega (arith, length-drop q xs, ap length at)))
-    (eq-eqb (getD xs q 0) b (ap (λ k. getD xs k 0) (sym (add-zero q)) ∙ sym (getD-drop q xs 0 0) ∙ ap (λ s. getD s 0 0) at))
+      (lt-ltb q (length xs) (omega (arith, length-drop q xs, ap length at)))
+      (eq-eqb (getD xs q 0) b (ap (λ k. getD xs k 0) (sym (add-zero q)) ∙ sym (getD-drop q xs 0 0) ∙ ap (λ s. getD s 0 0) at))
 
   byte-reads : (rest : List ℕ) → drop q xs ≡ b ∷ rest → after-byte xs q b ≡ Ok (q + 1)
-  unfolding after-byte
   byte-reads rest at = cond-true (stands xs q b) _ _ (byte-stands rest at)
 
   byte-is : (e : ℕ) → after-byte xs q b ≡ Ok e → (drop q xs ≡ b ∷ drop e xs) × (e ≡ q + 1)
-  unfolding after-byte
   byte-is e so =
       let s = ok-when (stands xs q b) _ (q + 1) e so in
-      let t = and-parts (ltb q (length xs)) (eqb (getD xs q 0) b) (s .0) in
-      (
+      let t = and-parts (ltb q (length xs)) (eqb (getD xs q 0) b) (s .0) in (
         drop-more xs q 0 (ltb-true q (length xs) (t .0)) ∙ ap₂ (λ x k. x ∷ drop k xs) (eqb-true (getD xs q 0) b (t .1)) (s .1),
         sym (s .1),
       )
@@ -48,12 +45,11 @@ module _ (xs : List ℕ) (p n low high end : ℕ) where
   ended-reads rest at stop h l u =
       let apart : drop p xs ≡ decimal n ++ (end ∷ rest) = at ∙ append-assoc (decimal n) (end ∷ []) rest in
       let after : drop (p + length (decimal n)) xs ≡ end ∷ rest =
-          sym (drop-drop (length (decimal n)) p xs) ∙ ap (drop (length (decimal n))) apart ∙ drop-at (decimal n) (end ∷ rest) (length (decimal n)) refl in
-      let place : p + length (decimal n) + 1 ≡ p + length (field-bytes n end) = omega (arith, length-push (decimal n) end) in
-      (
+      sym (drop-drop (length (decimal n)) p xs) ∙ ap (drop (length (decimal n))) apart ∙ drop-at (decimal n) (end ∷ rest) (length (decimal n)) refl in
+      let place : p + length (decimal n) + 1 ≡ p + length (field-bytes n end) = omega (arith, length-push (decimal n) end) in (
         ap (λ r. and-then r (λ f. and-then (after-byte xs (f .1) end) (λ e. Ok (f .0, e)))) (field-reads xs p n low high (end ∷ rest) apart stop h l u)
-        ∙ ap (λ r. and-then r (λ e. Ok (n, e))) (byte-reads xs (p + length (decimal n)) end rest after)
-        ∙ ap (λ k. Ok (n, k)) place,
+            ∙ ap (λ r. and-then r (λ e. Ok (n, e))) (byte-reads xs (p + length (decimal n)) end rest after)
+            ∙ ap (λ k. Ok (n, k)) place,
         sym (drop-drop (length (field-bytes n end)) p xs) ∙ ap (drop (length (field-bytes n end))) at ∙ drop-at (field-bytes n end) rest (length (field-bytes n end)) refl,
       )
 
@@ -68,8 +64,7 @@ ended-is xs p low high end x fits so =
     let number-is : f .0 ≡ x .0 = ap (λ y. y .0) is in
     let place-is : t .0 ≡ x .1 = ap (λ y. y .1) is in
     let digits = field-is xs p (f .0) low high (f .1) fits (s .1) in
-    let byte = byte-is xs (f .1) end (t .0) (t .1) in
-    (
+    let byte = byte-is xs (f .1) end (t .0) (t .1) in (
       digits .0 ∙ ap (λ l. decimal (f .0) ++ l) (byte .0) ∙ sym (append-assoc (decimal (f .0)) (end ∷ []) (drop (t .0) xs)) ∙ ap₂ (λ n k. field-bytes n end ++ drop k xs) number-is place-is,
       sym place-is ∙ byte .1 ∙ ap (λ k. k + 1) (digits .1 ∙ ap (λ n. p + length (decimal n)) number-is) ∙ omega (arith, length-push (decimal (x .0)) end),
       omega arith,
@@ -141,12 +136,14 @@ module _ (w : Word) where
   pub frame-max-length : Ranges w → length (frame-of w) ≤ frame-max
   unfolding frame-of
   frame-max-length r =
-      simp length-append (omega (arith,
+      simp length-append (omega (
+        arith,
         length-decimal-le 5 (w .group) (lit< tt) (omega (arith, r .group-high)) (omega (arith, r .group-high)),
         length-decimal-le 5 (w .change) (lit< tt) (omega (arith, r .change-high)) (omega (arith, r .change-high)),
         length-decimal-le 2 (w .sender) (lit< tt) (omega (arith, r .sender-high)) (omega (arith, r .sender-high)),
         length-decimal-le 1 (w .kind) (lit< tt) (omega (arith, r .kind-high)) (omega (arith, r .kind-high)),
-        length-decimal-le 1 (w .value) (lit< tt) (omega (arith, r .value-high)) (omega (arith, r .value-high))))
+        length-decimal-le 1 (w .value) (lit< tt) (omega (arith, r .value-high)) (omega (arith, r .value-high)),
+      ))
 
 regroup : (a b c d e rest : List ℕ) → (a ++ (b ++ (c ++ (d ++ e)))) ++ rest ≡ a ++ (b ++ (c ++ (d ++ (e ++ rest))))
 regroup a b c d e rest = simp append-assoc
@@ -165,7 +162,7 @@ places-chain p a b c d e g h s k v i j l m n = omega arith
 -- the word's bytes at a place are read as the word
 module _ (xs : List ℕ) (p : ℕ) (w : Word) (r : Ranges w) (rest : List ℕ) (at : drop p xs ≡ frame-of w ++ rest) where
   pub frame-reads : frame-at xs p ≡ Ok (w, p + length (frame-of w))
-  unfolding frame-at frame-of
+  unfolding frame-of
   frame-reads =
       let e = field-bytes (w .value) line-feed in
       let d = field-bytes (w .kind) comma in
@@ -198,8 +195,7 @@ module _ (xs : List ℕ) (p : ℕ) (g c s k v : ℕ × ℕ) where
       let cs = ended-is xs (g .1) 1 max-id comma c (lit< tt) ce in
       let ss = ended-is xs (c .1) 0 max-sender comma s (lit< tt) se in
       let ks = ended-is xs (s .1) 1 max-kind comma k (lit< tt) ke in
-      let vs = ended-is xs (k .1) 0 max-value line-feed v (lit< tt) ve in
-      (
+      let vs = ended-is xs (k .1) 0 max-value line-feed v (lit< tt) ve in (
         record { group-low = gs .2; group-high = gs .3; change-low = cs .2; change-high = cs .3; sender-high = ss .3; kind-low = ks .2; kind-high = ks .3; value-high = vs .3 },
         gs .0 ∙ ap (λ l. a ++ l) (cs .0 ∙ ap (λ l. b ++ l) (ss .0 ∙ ap (λ l. d ++ l) (ks .0 ∙ ap (λ l. e ++ l) (vs .0)))) ∙ sym (regroup a b d e f (drop (v .1) xs)),
         places-chain p (length a) (length b) (length d) (length e) (length f) (g .1) (c .1) (s .1) (k .1) (v .1) (gs .1) (cs .1) (ss .1) (ks .1) (vs .1) ∙ ap (λ n. p + n) (sym (lengths a b d e f)),
@@ -207,7 +203,7 @@ module _ (xs : List ℕ) (p : ℕ) (g c s k v : ℕ × ℕ) where
 
 -- what is read as a word is the word's bytes
 pub frame-is : (xs : List ℕ) (p : ℕ) (x : Word × ℕ) → frame-at xs p ≡ Ok x → Ranges (x .0) × (drop p xs ≡ frame-of (x .0) ++ drop (x .1) xs) × (x .1 ≡ p + length (frame-of (x .0)))
-unfolding frame-at read-word
+unfolding read-word
 frame-is xs p x so =
     let g = ok-then (ended-field xs p 1 max-id comma) _ x so in
     let c = ok-then (ended-field xs (g .0 .1) 1 max-id comma) _ x (g .2) in
@@ -232,8 +228,7 @@ word-is xs w so =
     let f = ok-then (frame-at xs 0) _ w so in
     let t = ok-when (eqb (f .0 .1) (length xs)) _ (f .0 .0) w (f .2) in
     let all = frame-is xs 0 (f .0) (f .1) in
-    let past : drop (f .0 .1) xs ≡ [] = drop-all (f .0 .1) xs (omega (arith, eqb-true (f .0 .1) (length xs) (t .0))) in
-    (
+    let past : drop (f .0 .1) xs ≡ [] = drop-all (f .0 .1) xs (omega (arith, eqb-true (f .0 .1) (length xs) (t .0))) in (
       subst Ranges (t .1) (all .0),
       all .1 ∙ ap (λ l. frame-of (f .0 .0) ++ l) past ∙ append-nil (frame-of (f .0 .0)) ∙ ap frame-of (t .1),
     )

@@ -28,9 +28,9 @@ module _ {A B : Type 0} (g : A → List B) where
     pub joined-le : (i n : ℕ) → i ≤ n → length (joined g (in-order f i)) ≤ length (joined g (in-order f n))
     joined-le i zero h = let e : i ≡ 0 = omega arith in le-of-eq (ap (λ k. length (joined g (in-order f k))) e)
     joined-le i (suc n) h = ⊎-elim
-      (λ e. le-of-eq (ap (λ k. length (joined g (in-order f k))) e))
-      (λ ne. omega (arith, joined-le i n (omega arith), ap length (joined-append (in-order f n) (f n)), length-append (joined g (in-order f n)) (joined g (f n))))
-      (cases-eq i (suc n))
+        (λ e. le-of-eq (ap (λ k. length (joined g (in-order f k))) e))
+        (λ ne. omega (arith, joined-le i n (omega arith), ap length (joined-append (in-order f n) (f n)), length-append (joined g (in-order f n)) (joined g (f n))))
+        (cases-eq i (suc n))
 
     -- parts of which each element weighs the same
     pub joined-weighs : (m n : ℕ) → ((i : ℕ) → i < n → length (joined g (f i)) ≡ length (f i) * m) → length (joined g (in-order f n)) ≡ length (in-order f n) * m
@@ -61,6 +61,6 @@ module _ {A : Type 0} (g : A → List ℕ) (f : ℕ → List A) (at : ℕ) (old 
     putting-more next new place-is put = (
       omega (arith, more),
       put
-      ∙ put-more at place (joined g (in-order f i)) (joined g (f i)) old buf (omega (arith, joined-le g f i n (omega arith))) (so .1) (so .0)
-      ∙ ap (λ l. put-at at l old) (sym (joined-more g f i)),
+          ∙ put-more at place (joined g (in-order f i)) (joined g (f i)) old buf (omega (arith, joined-le g f i n (omega arith))) (so .1) (so .0)
+          ∙ ap (λ l. put-at at l old) (sym (joined-more g f i)),
     )

@@ -46,8 +46,7 @@ module _ (digits old after : List ℕ) (at : ℕ) where
       let long : length (take (at + j) old) ≡ at + j = length-take-le (at + j) old (omega arith) in
       let front : take (at + suc j) old ≡ take (at + j) old ++ (getD old (at + j) 0 ∷ []) = ap (λ k. take k old) (omega arith) ∙ take-more old (at + j) 0 room in
       let spread : buf ≡ take (at + j) old ++ (getD old (at + j) 0 ∷ (drop (suc j) digits ++ after)) =
-          w .1 ∙ ap (λ p. p ++ (drop (suc j) digits ++ after)) front ∙ append-assoc (take (at + j) old) (getD old (at + j) 0 ∷ []) (drop (suc j) digits ++ after) in
-      (
+      w .1 ∙ ap (λ p. p ++ (drop (suc j) digits ++ after)) front ∙ append-assoc (take (at + j) old) (getD old (at + j) 0 ∷ []) (drop (suc j) digits ++ after) in (
         all ∙ ap (λ t. lows j (v / 10) ++ t) (sym left),
         ap (λ b. set b (at + j) d) spread ∙ set-at (take (at + j) old) (getD old (at + j) 0) (drop (suc j) digits ++ after) d (at + j) long ∙ ap (λ t. take (at + j) old ++ (t ++ after)) (sym left),
       )
@@ -60,8 +59,7 @@ module _ (digits old after : List ℕ) (at : ℕ) where
 
 pub write-start : (old : List ℕ) (at n value : ℕ) → value < 2 ^ 64 → n ≡ length (decimal value) → Written (decimal value) old (drop (at + n) old) at n value old
 write-start old at n value fits long =
-    let past : drop n (decimal value) ≡ [] = drop-all n (decimal value) (omega arith) in
-    (
+    let past : drop n (decimal value) ≡ [] = drop-all n (decimal value) (omega arith) in (
       decimal-lows value fits ∙ ap (λ k. lows k value) (sym long) ∙ sym (append-nil (lows n value)) ∙ ap (λ t. lows n value ++ t) (sym past),
       sym (take-append-drop (at + n) old) ∙ ap (λ t. take (at + n) old ++ (t ++ drop (at + n) old)) (sym past),
     )

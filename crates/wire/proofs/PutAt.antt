@@ -27,11 +27,11 @@ module _ (at : ℕ) (a old : List ℕ) (room : at + length a ≤ length old) whe
   pub put-put : (b : List ℕ) → put-at (at + length a) b (put-at at a old) ≡ put-at at (a ++ b) old
   put-put b =
       ap₂ (λ x y. x ++ (b ++ y))
-        (ap (take (at + length a)) regrouped ∙ take-at (take at old ++ a) (drop (at + length a) old) (at + length a) front-length)
-        (sym (drop-drop (length b) (at + length a) (put-at at a old))
-          ∙ ap (drop (length b)) (ap (drop (at + length a)) regrouped ∙ drop-at (take at old ++ a) (drop (at + length a) old) (at + length a) front-length)
-          ∙ drop-drop (length b) (at + length a) old
-          ∙ ap (λ k. drop k old) (add-assoc at (length a) (length b) ∙ ap (λ n. at + n) (sym (length-append a b))))
+      (ap (take (at + length a)) regrouped ∙ take-at (take at old ++ a) (drop (at + length a) old) (at + length a) front-length)
+      (sym (drop-drop (length b) (at + length a) (put-at at a old))
+      ∙ ap (drop (length b)) (ap (drop (at + length a)) regrouped ∙ drop-at (take at old ++ a) (drop (at + length a) old) (at + length a) front-length)
+      ∙ drop-drop (length b) (at + length a) old
+      ∙ ap (λ k. drop k old) (add-assoc at (length a) (length b) ∙ ap (λ n. at + n) (sym (length-append a b))))
       ∙ append-assoc (take at old) a (b ++ drop (at + length (a ++ b)) old)
       ∙ ap (λ l. take at old ++ l) (sym (append-assoc a b (drop (at + length (a ++ b)) old)))
 
@@ -103,6 +103,6 @@ module _ (bytes : List ℕ) where
       let zeros : List ℕ = replicate (room - length bytes) 0 in
       getD-append-right bytes zeros (length bytes) k 0 refl le
       ∙ ⊎-elim
-        (λ lt. getD-replicate (room - length bytes) (k - length bytes) 0 0 lt)
-        (λ ge. getD-past zeros (k - length bytes) 0 (omega (arith, length-replicate {A = ℕ} (room - length bytes) 0)))
-        (cases-lt (k - length bytes) (room - length bytes))
+      (λ lt. getD-replicate (room - length bytes) (k - length bytes) 0 0 lt)
+      (λ ge. getD-past zeros (k - length bytes) 0 (omega (arith, length-replicate {A = ℕ} (room - length bytes) 0)))
+      (cases-lt (k - length bytes) (room - length bytes))

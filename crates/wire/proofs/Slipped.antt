@@ -16,7 +16,7 @@ use Rattle.std.specs.declared.option.Option.the-variants.{None}
 use Rattle.wire.specs.declared.posted.Posted.{Posted}
 use Rattle.wire.specs.declared.word.Word.{Word}
 use Rattle.wire.specs.Frames.{carried}
-use Rattle.wire.specs.Slips.{has, holds, in-order, if-held, word-of, words-of-kind, words-of, emptied, with-word, One-more, Reads-back, frames-of, addressed}
+use Rattle.wire.specs.Slips.{has, holds, in-order, if-held, word-of, words-of-kind, words-of, none-posted, with-word, One-more, Reads-back, frames-of, addressed}
 use Rattle.wire.specs.Writes.{range-fault}
 use Rattle.wire.specs.Limits.{max-kind, max-value, frame-max}
 use Rattle.wire.proofs.Counting.{frames-weigh}
@@ -48,9 +48,9 @@ frames-short p sound =
     let one = frame-max-length (word-of p 1 0) (word-ranges p 1 0 sound (lit≤ tt) (lit≤ tt) (lit≤ tt)) in
     rw (frames-weigh p) (mul-le-mul-left (length (words-of p)) one)
 
-pub emptied-none : (p : Posted) → words-of (emptied p) ≡ []
+pub none-posted-none : (g c s : ℕ) → words-of (none-posted g c s) ≡ []
 unfolding words-of words-of-kind
-emptied-none p = refl
+none-posted-none g c s = refl
 
 or-odd : (a b : ℕ) → bitOr a b % 2 ≡ max (a % 2) (b % 2)
 or-odd a b = let e = or-step a b in omega arith
@@ -67,33 +67,33 @@ has-or m b u =
 -- the value v adds 2 to the power v, and so is the one value there
 has-bit : (v u : ℕ) → has (2 ^ v) u ≡ eqb u v
 has-bit v u = ⊎-elim
-  (λ e. ap (λ k. has (2 ^ v) k) e ∙ ap (λ (x : ℕ). eqb (x % 2) 1) (ap (λ (x : ℕ). x / 2 ^ v) (sym (one-mul (2 ^ v))) ∙ shl-shr 1 v) ∙ sym (eq-eqb u v e))
-  (⊎-elim
+    (λ e. ap (λ k. has (2 ^ v) k) e ∙ ap (λ (x : ℕ). eqb (x % 2) 1) (ap (λ (x : ℕ). x / 2 ^ v) (sym (one-mul (2 ^ v))) ∙ shl-shr 1 v) ∙ sym (eq-eqb u v e))
+    (⊎-elim
     (λ lt.
-      let parts : v ≡ 1 + (v - u - 1) + u = omega arith in
-      let quotient : 2 ^ v / 2 ^ u ≡ 2 ^ (1 + (v - u - 1)) = ap (λ k. 2 ^ k / 2 ^ u) parts ∙ ap (λ (x : ℕ). x / 2 ^ u) (pow-add 2 (1 + (v - u - 1)) u) ∙ shl-shr (2 ^ (1 + (v - u - 1))) u in
-      let even : 2 ^ (1 + (v - u - 1)) ≡ 2 * 2 ^ (v - u - 1) = pow-add 2 1 (v - u - 1) in
-      let odd : (2 ^ v / 2 ^ u % 2 ≡ 1) → ⊥ = λ o. omega arith in
-      ne-eqb (2 ^ v / 2 ^ u % 2) 1 odd ∙ sym (ne-eqb u v (λ e. omega arith)))
+    let parts : v ≡ 1 + (v - u - 1) + u = omega arith in
+    let quotient : 2 ^ v / 2 ^ u ≡ 2 ^ (1 + (v - u - 1)) = ap (λ k. 2 ^ k / 2 ^ u) parts ∙ ap (λ (x : ℕ). x / 2 ^ u) (pow-add 2 (1 + (v - u - 1)) u) ∙ shl-shr (2 ^ (1 + (v - u - 1))) u in
+    let even : 2 ^ (1 + (v - u - 1)) ≡ 2 * 2 ^ (v - u - 1) = pow-add 2 1 (v - u - 1) in
+    let odd : (2 ^ v / 2 ^ u % 2 ≡ 1) → ⊥ = λ o. omega arith in
+    ne-eqb (2 ^ v / 2 ^ u % 2) 1 odd ∙ sym (ne-eqb u v (λ e. omega arith)))
     (λ gt.
-      let none : 2 ^ v / 2 ^ u ≡ 0 = div-eq-of-lt (pow-below v u gt) in
-      ap (λ (x : ℕ). eqb (x % 2) 1) none ∙ sym (ne-eqb u v (λ e. omega arith))))
-  (cases-order u v)
+    let none : 2 ^ v / 2 ^ u ≡ 0 = div-eq-of-lt (pow-below v u gt) in
+    ap (λ (x : ℕ). eqb (x % 2) 1) none ∙ sym (ne-eqb u v (λ e. omega arith))))
+    (cases-order u v)
 
 -- with one word more on it, a slip holds that word and those it held
 pub word-added : (p : Posted) (kind value : ℕ) → 1 ≤ kind → kind ≤ 5 → length (p .kinds) ≡ 5 → One-more p (with-word p kind value) kind value
 word-added p kind value low high five k v l h = ⊎-elim
-  (λ e. 
+    (λ e.
     let index : k - 1 ≡ kind - 1 = omega arith in
     let m = getD (p .kinds) (kind - 1) 0 in
     ap (λ i. has (getD (set (p .kinds) (kind - 1) (bitOr m (2 ^ value))) i 0) v) index
     ∙ ap (λ s. has s v) (getD-set-same (p .kinds) (kind - 1) (bitOr m (2 ^ value)) 0 (omega arith))
     ∙ has-or m (2 ^ value) v
     ∙ ap₂ _||_ (ap (λ i. has (getD (p .kinds) i 0) v) (sym index)) (has-bit value v ∙ sym (ap (λ b. b && eqb v value) (eq-eqb k kind e))))
-  (λ ne.
+    (λ ne.
     ap (λ s. has s v) (getD-set-other (p .kinds) (kind - 1) (k - 1) (bitOr (getD (p .kinds) (kind - 1) 0) (2 ^ value)) 0 (λ e. ne (omega arith)))
     ∙ sym (ap (λ b. holds p k v || (b && eqb v value)) (ne-eqb k kind ne) ∙ or-none (holds p k v)))
-  (cases-eq k kind)
+    (cases-eq k kind)
   where
     or-none : (b : Bool) → (b || false) ≡ b
     or-none true = refl

@@ -50,7 +50,7 @@ field-at xs p low high =
     (cond (is-within low high (number (drop p xs))) (Ok (number (drop p xs), p + run (drop p xs))) (Err (fault 13 p))))
 
 -- the place after a byte that has to stand at p
-unfoldable pub after-byte : List ℕ → ℕ → ℕ → Result ℕ FrameFault
+abbrev pub after-byte : List ℕ → ℕ → ℕ → Result ℕ FrameFault
 after-byte xs p b = cond (stands xs p b) (Ok (p + 1)) (Err (fault 14 p))
 
 -- the reader's place after a call: where the answer says, or as it was

@@ -35,7 +35,7 @@ ended-field xs p low high end =
     and-then (field-at xs p low high) (λ f. and-then (after-byte xs (f .1) end) (λ e. Ok (f .0, e)))
 
 -- the word of the frame that begins at p, and the place after its line feed
-unfoldable pub frame-at : List ℕ → ℕ → Result (Word × ℕ) FrameFault
+abbrev pub frame-at : List ℕ → ℕ → Result (Word × ℕ) FrameFault
 frame-at xs p =
     and-then (ended-field xs p 1 max-id comma) (λ g.
     and-then (ended-field xs (g .1) 1 max-id comma) (λ c.

@@ -17,6 +17,10 @@ max-value = 8
 abbrev pub frame-max : ℕ
 frame-max = 19
 
+-- of all frames of a slip: five kinds of nine values each
+abbrev pub slip-max : ℕ
+slip-max = 855
+
 abbrev pub comma : ℕ
 comma = 44
 

@@ -58,12 +58,12 @@ module _ (w : Word) where
   -- the first number of the word that no frame can carry, by the place where its field would begin
   unfoldable pub range-fault : Option FrameFault
   range-fault = first-failed (
-    (is-within 1 max-id (w .group), fault 13 0)
-    ∷ (is-within 1 max-id (w .change), fault 13 change-place)
-    ∷ (is-within 0 max-sender (w .sender), fault 13 sender-place)
-    ∷ (is-within 1 max-kind (w .kind), fault 13 kind-place)
-    ∷ (is-within 0 max-value (w .value), fault 13 value-place)
-    ∷ [])
+      (is-within 1 max-id (w .group), fault 13 0)
+      ∷ (is-within 1 max-id (w .change), fault 13 change-place)
+      ∷ (is-within 0 max-sender (w .sender), fault 13 sender-place)
+      ∷ (is-within 1 max-kind (w .kind), fault 13 kind-place)
+      ∷ (is-within 0 max-value (w .value), fault 13 value-place)
+      ∷ [])
 
   -- the answer of a write of the word into so much room
   abbrev pub word-written : ℕ → Result ℕ FrameFault

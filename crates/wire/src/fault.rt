@@ -33,6 +33,10 @@ impl FrameFault {
             FrameFault::Trailing(place) => (15, Some(place)),
             FrameFault::ShortBuffer => (20, None),
         };
-        Refusal { number, place, board: None }
+        Refusal {
+            number,
+            place,
+            board: None,
+        }
     }
 }

@@ -32,20 +32,14 @@ impl Drop for Slip {
 impl Slip {
     // A slip without words.
     pub fn empty(group: u16, change: u16, sender: u8) -> Result<Slip, FrameFault>
-        ensures { λ r. ⌜ mapped (λ s. s .posted) r ≡ slip-made group change sender ⌝ }
+        ensures value { λ r. ⌜ mapped (λ s. s .posted) r ≡ slip-made group change sender ⌝ }
+        ensures no_words { λ r. ⌜ Cases r (λ s. words-of (s .posted) ≡ []) (λ _. Unit {0}) ⌝ }
     {
         let posted = posted::none_posted(group, change, sender);
         if let Some(fault) = range_fault(posted::word_of(&posted, 1, 0)) {
             return Err(fault);
         }
         Ok(Slip { posted })
-    }
-
-    // The words on the slip.
-    pub fn posted(&self) -> Posted
-        ensures { λ r. ⌜ r ≡ now (self .entry) .posted ⌝ }
-    {
-        self.posted
     }
 
     // How many words are on the slip.
@@ -78,6 +72,8 @@ impl Slip {
         ensures a_written_slip_is_empty { λ r. ⌜ Cases r (λ _. words-of (now (self .exit) .posted) ≡ []) (λ _. Unit {0}) ⌝ }
         ensures each_frame_reads_back_as_its_word { λ r. ⌜ Cases r (λ _. Reads-back (now (self .entry) .posted)) (λ _. Unit {0}) ⌝ }
         ensures at_most_19_bytes_for_each_word { λ r. ⌜ Cases r (λ n. n ≤ length (words-of (now (self .entry) .posted)) * 19) (λ _. Unit {0}) ⌝ }
+        ensures a_buffer_of_19_bytes_for_each_word_is_enough { λ r. ⌜ (length (words-of (now (self .entry) .posted)) * 19 ≤ length (now (buf .entry)) → isOk r ≡ true) ⌝ }
+        ensures a_buffer_of_855_bytes_is_always_enough { λ r. ⌜ (855 ≤ length (now (buf .entry)) → isOk r ≡ true) ⌝ }
         ensures no_byte_behind_is_other_than_zero { λ r. ⌜ Cases r (λ n. (k : ℕ) → n ≤ k → getD (now (buf .exit)) k 0 ≡ 0) (λ _. Unit {0}) ⌝ }
     {
         let posted = self.posted;

@@ -22,7 +22,12 @@ pub(crate) fn frame_len(word: Word) -> usize
     ensures value { λ r. ⌜ r ≡ length (frame-of word) ⌝ }
     ensures bound { λ r. ⌜ r ≤ 30 ⌝ }
 {
-    width(word.group) + width(word.change) + width(word.sender as u16) + width(word.kind as u16) + width(word.value as u16) + 5
+    width(word.group)
+        + width(word.change)
+        + width(word.sender as u16)
+        + width(word.kind as u16)
+        + width(word.value as u16)
+        + 5
 }
 
 // Puts the word's frame at a place, and answers the place after it.

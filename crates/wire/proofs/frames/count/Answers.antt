@@ -16,8 +16,7 @@ add-words c = omega (arith, ones-of-nine (getD (c .args .posted .now .kinds) (c 
 pub loop-index-again : need.loop-index-again
 loop-index-again c =
     let p = c .args .posted .now in
-    let n = c .loop-index .index in
-    (
+    let n = c .loop-index .index in (
       ap (λ w. w + ones (getD (p .kinds) n 0 % 512)) (c .loop-index .inv .0) ∙ sym (count-more p n),
       omega (arith, ones-of-nine (getD (p .kinds) n 0)),
     )

@@ -18,7 +18,7 @@ returns-then-not-has c =
     let k = c .args .kind in
     let v = c .args .value in
     let none : joined frame-of (if-held p k v) ≡ [] =
-        ap (joined frame-of) (cond-false (holds p k v) (word-of p k v ∷ []) [] (sym (c .has .ensures) ∙ c .if-not-has .taken)) in
+    ap (joined frame-of) (cond-false (holds p k v) (word-of p k v ∷ []) [] (sym (c .has .ensures) ∙ c .if-not-has .taken)) in
     record {
       value = omega (arith, ap length none);
       buffer = let at = c .args .at in let old = c .args .buf .now in let e : old ≡ put-at at (joined frame-of (if-held p k v)) old = put-none at old ∙ ap (λ l. put-at at l old) (sym none) in search needs;

@@ -29,8 +29,8 @@ returns c =
     record {
       value = omega (arith, length-push digits end);
       buffer =
-        put-byte (c .put-number-place .result) end (c .put-number-place .last .buf) inside
-        ∙ ap (λ k. put-at k (end ∷ []) (c .put-number-place .last .buf)) (c .put-number-place .ensures .value)
-        ∙ ap (put-at (at + length digits) (end ∷ [])) (c .put-number-place .ensures .buffer)
-        ∙ put-put at digits old fits (end ∷ []);
+          put-byte (c .put-number-place .result) end (c .put-number-place .last .buf) inside
+          ∙ ap (λ k. put-at k (end ∷ []) (c .put-number-place .last .buf)) (c .put-number-place .ensures .value)
+          ∙ ap (put-at (at + length digits) (end ∷ [])) (c .put-number-place .ensures .buffer)
+          ∙ put-put at digits old fits (end ∷ []);
     }

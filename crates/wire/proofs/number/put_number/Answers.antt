@@ -12,5 +12,5 @@ pub loop-j-again : need.loop-j-again
 loop-j-again c = (
   omega arith,
   write-step (decimal (c .args .number)) (c .args .buf .now) (drop (c .args .at + c .width-digits .result) (c .args .buf .now)) (c .args .at) (c .loop-j .j) (c .loop-j .left) (c .loop-j .buf)
-    (c .loop-j-test .taken) (omega arith) (c .loop-j .inv .1),
+      (c .loop-j-test .taken) (omega arith) (c .loop-j .inv .1),
 )

@@ -19,6 +19,6 @@ returns c =
     record {
       value = search needs;
       one-more = λ k v l h.
-        ap (λ b. holds (record { group = p .group; change = p .change; sender = p .sender; kinds = set (p .kinds) (kind - 1) (bitOr (getD (p .kinds) (kind - 1) 0) b) }) k v) bit
-        ∙ word-added p kind value (omega arith) (omega arith) five k v l h;
+          ap (λ b. holds (record { group = p .group; change = p .change; sender = p .sender; kinds = set (p .kinds) (kind - 1) (bitOr (getD (p .kinds) (kind - 1) 0) b) }) k v) bit
+          ∙ word-added p kind value (omega arith) (omega arith) five k v l h;
     }

@@ -27,7 +27,7 @@ returns c =
     record {
       value = omega (arith, frame-length w);
       buffer =
-        put-five (c .args .at) _ _ _ _ (field-bytes (w .group) comma) (field-bytes (w .change) comma) (field-bytes (w .sender) comma) (field-bytes (w .kind) comma) (field-bytes (w .value) line-feed) (c .args .buf .now) _ _ _ _ _
+          put-five (c .args .at) _ _ _ _ (field-bytes (w .group) comma) (field-bytes (w .change) comma) (field-bytes (w .sender) comma) (field-bytes (w .kind) comma) (field-bytes (w .value) line-feed) (c .args .buf .now) _ _ _ _ _
           (omega (arith, frame-length w))
           (c .put-field-change .ensures .buffer) (c .put-field-change .ensures .value)
           (c .put-field-sender .ensures .buffer) (c .put-field-sender .ensures .value)

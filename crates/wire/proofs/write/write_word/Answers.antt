@@ -24,7 +24,7 @@ returns c =
     let len : c .put-frame-end .result ≡ length bytes = omega arith in
     let fits : length bytes ≤ room = omega arith in
     let written : c .clear-from .last .buf ≡ zero-filled bytes room =
-        put-and-clear bytes (c .put-frame-end .result) (c .args .buf .now) (c .put-frame-end .last .buf) (c .clear-from .last .buf) (c .put-frame-end .ensures .buffer) (c .put-frame-end .ensures .value) (omega arith) (c .clear-from .ensures) in
+    put-and-clear bytes (c .put-frame-end .result) (c .args .buf .now) (c .put-frame-end .last .buf) (c .clear-from .last .buf) (c .put-frame-end .ensures .buffer) (c .put-frame-end .ensures .value) (omega arith) (c .clear-from .ensures) in
     record {
       value = ap Ok len ∙ sym (ap (λ o. unless o (fitting bytes room)) none ∙ cond-true (leb (length bytes) room) (Ok (length bytes)) (Err (fault 20 0)) (le-leb (length bytes) room fits));
       buffer = written;

@@ -16,7 +16,7 @@ returns-then-len-eq0 c = record {
 pub returns-then-zero-leads : need.returns-then-zero-leads
 returns-then-zero-leads c = record {
   value = field-zero (c .args .self .now .bytes .now) (c .args .self .now .place) _ _ (c .args .low) (c .args .high) (c .digits-number .ensures .value) (c .digits-number .ensures .len) (c .if-len-eq0 .left)
-    (sym (c .zero-leads .ensures) ∙ c .if-zero-leads .taken);
+      (sym (c .zero-leads .ensures) ∙ c .if-zero-leads .taken);
   range = tt;
   place = search needs;
   same = search needs;
@@ -25,7 +25,7 @@ returns-then-zero-leads c = record {
 pub returns-then-not-within : need.returns-then-not-within
 returns-then-not-within c = record {
   value = field-out (c .args .self .now .bytes .now) (c .args .self .now .place) _ _ (c .args .low) (c .args .high) (c .digits-number .ensures .value) (c .digits-number .ensures .len) (c .if-len-eq0 .left)
-    (sym (c .zero-leads .ensures) ∙ c .if-zero-leads .left) (omega arith) (omega arith) (sym (c .within .ensures) ∙ c .if-not-within .taken);
+      (sym (c .zero-leads .ensures) ∙ c .if-zero-leads .left) (omega arith) (omega arith) (sym (c .within .ensures) ∙ c .if-not-within .taken);
   range = tt;
   place = search needs;
   same = search needs;
@@ -42,5 +42,5 @@ ghost-self c = (run-inside (c .args .self .now .bytes .now) (c .args .self .now 
 pub returns : need.returns
 returns c =
     let r = field-good (c .args .self .now .bytes .now) (c .args .self .now .place) (c .digits-number .result .0) (c .digits-number .result .1) (c .args .low) (c .args .high) (c .digits-number .ensures .value) (c .digits-number .ensures .len) (c .if-len-eq0 .left)
-        (sym (c .zero-leads .ensures) ∙ c .if-zero-leads .left) (omega arith) (omega arith) (sym (c .within .ensures) ∙ c .if-not-within .left) in
+    (sym (c .zero-leads .ensures) ∙ c .if-zero-leads .left) (omega arith) (omega arith) (sym (c .within .ensures) ∙ c .if-not-within .left) in
     record { value = r .0; range = (r .1, r .2); place = refl; same = refl }
