@@ -1,0 +1,9 @@
+pub mod Limits
+pub mod Sets
+pub mod Rules
+pub mod Counting
+pub mod Listing
+pub mod Faults
+pub mod Asked
+pub mod Facts
+pub mod Meaning
