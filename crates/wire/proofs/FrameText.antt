@@ -87,7 +87,7 @@ within-parts low high n e =
     let p = and-parts (leb low n) (leb n high) e in
     (leb-true low n (p .0), leb-true n high (p .1))
 
-within-from : (low high n : ℕ) → low ≤ n → n ≤ high → is-within low high n ≡ true
+pub within-from : (low high n : ℕ) → low ≤ n → n ≤ high → is-within low high n ≡ true
 within-from low high n l h = and-from (leb low n) (leb n high) (le-leb low n l) (le-leb n high h)
 
 module _ (w : Word) where

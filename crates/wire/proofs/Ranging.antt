@@ -14,7 +14,7 @@ use Rattle.wire.specs.Fields.{is-within}
 use Rattle.wire.specs.Frames.{carried}
 use Rattle.wire.specs.Limits.{max-id, max-sender, max-kind, max-value}
 use Rattle.wire.specs.Writes.{change-place, sender-place, kind-place, value-place, first-failed, range-fault}
-use Rattle.wire.proofs.FrameText.{Ranges, within-parts}
+use Rattle.wire.proofs.FrameText.{Ranges, within-parts, within-from}
 
 none-failed : (b : Bool) (x : Option FrameFault) (f : FrameFault) → cond b x (Some f) ≡ None → (b ≡ true) × (x ≡ None)
 none-failed true x f e = (refl, e)
@@ -69,3 +69,13 @@ none-ranges w e =
       kind-high = within-parts 1 max-kind (w .kind) (k .0) .1;
       value-high = within-parts 0 max-value (w .value) (v .0) .1;
     }
+
+-- a word that can be carried has no fault
+pub ranges-none : (w : Word) → Ranges w → range-fault w ≡ None
+ranges-none w r =
+    sym (all-good w (change-place w) (sender-place w) (kind-place w) (value-place w) refl refl refl refl
+    (within-from 1 max-id (w .group) (r .group-low) (r .group-high))
+    (within-from 1 max-id (w .change) (r .change-low) (r .change-high))
+    (within-from 0 max-sender (w .sender) (omega arith) (r .sender-high))
+    (within-from 1 max-kind (w .kind) (r .kind-low) (r .kind-high))
+    (within-from 0 max-value (w .value) (omega arith) (r .value-high)))

@@ -12,12 +12,19 @@ use lib.ListN.{length, getD, set}
 use Rattle.std.proofs.shelf.Bits.{or-shr, pow-below, shl-shr, pow-add}
 use Rattle.std.proofs.shelf.Lists.{getD-set-same, getD-set-other}
 use Rattle.std.proofs.shelf.Tests.{eq-eqb, ne-eqb, cases-eq, cases-order}
-use Rattle.std.specs.declared.option.Option.the-variants.{None}
+use Rattle.std.specs.Results.{Cases}
+use Rattle.std.specs.declared.option.Option.{Option}
+use Rattle.std.specs.declared.option.Option.the-variants.{None, Some}
+use Rattle.std.specs.declared.result.Result.{Result}
+use Rattle.std.specs.declared.result.Result.the-variants.{Ok, Err}
+use Rattle.wire.specs.declared.fault.FrameFault.{FrameFault}
+use Rattle.wire.specs.declared.slip.Slip.{Slip}
 use Rattle.wire.specs.declared.posted.Posted.{Posted}
 use Rattle.wire.specs.declared.word.Word.{Word}
 use Rattle.wire.specs.Frames.{carried}
-use Rattle.wire.specs.Slips.{has, holds, in-order, if-held, word-of, words-of-kind, words-of, none-posted, with-word, One-more, Reads-back, frames-of, addressed}
-use Rattle.wire.specs.Writes.{range-fault}
+use Rattle.wire.specs.Slips.{has, holds, in-order, if-held, word-of, words-of-kind, words-of, none-posted, with-word, One-more, Reads-back, frames-of, addressed, mapped}
+use Rattle.wire.specs.Writes.{range-fault, unless}
+use Rattle.wire.proofs.Outcomes.{ok-same, ok-not-err}
 use Rattle.wire.specs.Limits.{max-kind, max-value, frame-max}
 use Rattle.wire.proofs.Counting.{frames-weigh}
 use Rattle.wire.proofs.FrameText.{Ranges, carried-ranges, ranges-carried, frame-max-length, word-reads}
@@ -98,3 +105,9 @@ word-added p kind value low high five k v l h = ⊎-elim
     or-none : (b : Bool) → (b || false) ≡ b
     or-none true = refl
     or-none false = refl
+
+-- a slip that is made with no words holds none
+pub made-empty : (r : Result Slip FrameFault) (o : Option FrameFault) (p : Posted) → mapped (λ s. s .posted) r ≡ unless o (Ok p) → words-of p ≡ [] → Cases r (λ s. words-of (s .posted) ≡ []) (λ _. Unit {0})
+made-empty (Ok s) None p e none = ap words-of (ok-same (s .posted) p e) ∙ none
+made-empty (Ok s) (Some f) p e none = ok-not-err (s .posted) f e
+made-empty (Err d) o p e none = tt

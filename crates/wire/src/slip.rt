@@ -35,7 +35,13 @@ impl Slip {
         ensures value { λ r. ⌜ mapped (λ s. s .posted) r ≡ slip-made group change sender ⌝ }
         ensures no_words { λ r. ⌜ Cases r (λ s. words-of (s .posted) ≡ []) (λ _. Unit {0}) ⌝ }
     {
-        let posted = posted::none_posted(group, change, sender);
+        Slip::holding(posted::none_posted(group, change, sender))
+    }
+
+    // A slip with these words. Of a set of values, what is above the largest value stands for no word.
+    pub fn holding(posted: Posted) -> Result<Slip, FrameFault>
+        ensures { λ r. ⌜ mapped (λ s. s .posted) r ≡ unless (range-fault (word-of posted 1 0)) (Ok posted) ⌝ }
+    {
         if let Some(fault) = range_fault(posted::word_of(&posted, 1, 0)) {
             return Err(fault);
         }

@@ -1,14 +1,12 @@
-use mathlib.Core.Path.{_≡_, sym, ap, _∙_}
-use mathlib.Core.List.{[]}
-use borrow.Author.Needs.{needs}
-use Rattle.wire.specs.Slips.{words-of}
-use Rattle.wire.proofs.Slipped.{address-sound, none-posted-none}
+use mathlib.Core.Path.{_≡_, ap, _∙_}
+use Rattle.std.specs.declared.result.Result.the-variants.{Ok}
+use Rattle.wire.specs.Slips.{word-of, none-posted}
+use Rattle.wire.specs.Writes.{range-fault, unless}
+use Rattle.wire.proofs.Slipped.{made-empty, none-posted-none}
 use Rattle.wire.proofs.slip.Slip.empty.Needs as need
-
-pub ghost-result : need.ghost-result
-ghost-result c = (address-sound (c .none-posted-posted .result) (c .word-of .result) (c .word-of .ensures) (sym (c .range-fault .ensures) ∙ c .in-rest .is), tt)
 
 pub returns : need.returns
 returns c =
-    let none : words-of (c .none-posted-posted .result) ≡ [] = ap words-of (c .none-posted-posted .ensures) ∙ none-posted-none (c .args .group) (c .args .change) (c .args .sender) in
-    search needs
+    let p = none-posted (c .args .group) (c .args .change) (c .args .sender) in
+    let made = c .holding .ensures ∙ ap (λ q. unless (range-fault (word-of q 1 0)) (Ok q)) (c .none-posted .ensures) in
+    record { value = made; no-words = made-empty (c .holding .result) (range-fault (word-of p 1 0)) p made (none-posted-none (c .args .group) (c .args .change) (c .args .sender)) }

@@ -1,0 +1,11 @@
+pub mod Faults
+pub mod Lamps
+pub mod Sound
+pub mod Fitting
+pub mod Taking
+pub mod Fitted
+pub mod Shown
+pub mod Started
+pub mod Laws
+pub mod Marked
+pub mod Ordered

@@ -1,0 +1,10 @@
+pub mod Starts
+pub mod Memory
+pub mod Fields
+pub mod Answered
+pub mod Step
+pub mod Once
+pub mod Stays
+pub mod Range
+pub mod Six
+pub mod Facts

@@ -1,0 +1,4 @@
+pub mod Limits
+pub mod Repeats
+pub mod Shown
+pub mod Masks

@@ -1,0 +1,11 @@
+pub mod Search
+pub mod Masks
+pub mod Tallies
+pub mod Reading
+pub mod Memory
+pub mod Stages
+pub mod News
+pub mod Records
+pub mod Moves
+pub mod Graded
+pub mod Kept

@@ -1,0 +1,5 @@
+pub mod Limits
+pub mod Shown
+pub mod Read
+pub mod Step
+pub mod Marks

@@ -1,0 +1,4 @@
+pub mod Options
+pub mod Seeking
+pub mod Memories
+pub mod Counting
