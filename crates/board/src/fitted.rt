@@ -12,6 +12,7 @@ use crate::settings::settings_fault;
 use quorum::FailureRule;
 use vote::Depth;
 
+#[derive(Drop)]
 pub struct Fitted<R: FailureRule> {
     pub(crate) rule: R,
     pub(crate) fit: Fit,

@@ -30,6 +30,7 @@ use vote::Vote;
 use wire::Posted;
 use wire::Slip;
 
+#[derive(Drop)]
 pub struct Started<R: FailureRule> {
     pub(crate) rule: R,
     pub(crate) fit: Fit,
