@@ -2,6 +2,8 @@
 // A run knows who starts and who counts which vote, in which order. How a board stores what it has counted, how words travel, and how boards are joined is left
 // to the crates above, which are proved against these definitions.
 // Each function here stands for a theorem: its contract says it, and the check asks for its proof. Called, it does nothing.
+
+#![tactic(auto)]
 ghost use Rattle.agreement.specs.Promises.{Agreement, Echo-binds-whatever-starts, Every-run-goes-on};
 ghost use Rattle.agreement.specs.Plain.Played.{Plain-runs-happen};
 ghost use Rattle.agreement.specs.Echo.Played.{Echo-runs-happen};

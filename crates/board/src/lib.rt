@@ -1,5 +1,7 @@
 // One board: fitted with its settings, then started once, then taking frames.
 // How it votes is told in the crates below; which boards there are, and how words travel between them, is left to the crates above.
+
+#![tactic(auto)]
 mod answer;
 mod fault;
 mod fit;

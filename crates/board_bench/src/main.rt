@@ -2,6 +2,8 @@
 //
 // The first line has the settings, each further line a port and the frame that comes in on it. What a line says, what is answered to it and how the
 // answer is written is proved in the modules; here is only what no contract can speak of: the input is read, and what the board answers is printed.
+
+#![tactic(auto)]
 mod answer;
 mod asked;
 mod decided;

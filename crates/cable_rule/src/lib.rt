@@ -1,5 +1,7 @@
 // A failure rule made outside of `quorum`, to show that its interface can be met from elsewhere: the boards on one of two cables fail together.
 // As some board is on neither cable, no number of such sets holds the whole crew: the cover may be any, and the crew larger than other rules allow.
+
+#![tactic(auto)]
 ghost use Rattle.std.specs.Prelude.{◌≡◌, true, false, MatchOption};
 ghost use Rattle.quorum.specs.Sets.{member, inCrew};
 ghost use Rattle.cable_rule.specs.Cables.{cable-rule, fair};

@@ -3,6 +3,8 @@
 // `board` is the record and the step that counts a vote; `findings` makes the seven tests of what is counted; `news` puts words into sets of values; `posted` answers what
 // a record holds. A record shows a history, the votes counted so far, and every contract says so: where it shows one at entry, it shows it with the new vote at exit.
 // Wrong numbers are refused by whoever calls, and how words travel is left to others too.
+
+#![tactic(auto)]
 pub mod board;
 pub mod findings;
 pub mod news;

@@ -1,5 +1,7 @@
 // Reads a capture of a serial port from standard input, one piece a line, and prints for each piece
 // the word that it carries, or the number and place of the refusal; and at the end how many there were.
+
+#![tactic(auto)]
 mod tally;
 
 use std::io;

@@ -1,5 +1,7 @@
 // A group: the boards of a harbour under one rule, opened together, started one by one, with posted words carried from board to board.
 // What a board makes of a frame is told in the crates below; lines of text are left to the crates above.
+
+#![tactic(auto)]
 mod fault;
 mod faults;
 mod group;

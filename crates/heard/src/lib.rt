@@ -3,6 +3,8 @@
 // `tally` keeps the senders of one kind, `counted` all that is counted; `search` looks through the values; `approval` says what is approved and mixed, `words` makes
 // the tests 1 to 6, and `verdict` the test 7. What a board remembers from one vote to the next is left to the crate above, and so are wrong numbers: whoever calls has
 // checked that sender, kind and value are in range.
+
+#![tactic(auto)]
 pub mod approval;
 pub mod counted;
 pub mod limits;

@@ -1,5 +1,7 @@
 // Reads the lines of a session: which call one line writes.
 // Whether its numbers are in range, and what comes of the call, is left to the crates above.
+
+#![tactic(auto)]
 mod field;
 mod forge;
 mod head;

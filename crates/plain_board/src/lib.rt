@@ -4,6 +4,8 @@
 // posts, and `record` the board's whole record with the step that counts a word. The contracts say, for every list of words counted before, that the record shows
 // just what the method's definition makes of that list. Who may send what, frames, and boards that are joined to a group are left to others: a caller has
 // checked a word before it is counted here.
+
+#![tactic(auto)]
 pub mod limits;
 mod outcome;
 mod posted;

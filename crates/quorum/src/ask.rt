@@ -9,16 +9,16 @@ use crate::set::outside;
 
 // Whether some board of the set is sure not to fail.
 pub fn strong<R: FailureRule>(rule: &R, set: u16) -> bool
-    ensures value { result ≡ isStrong (meaning rule.now) set }
-    ensures facts { Strong-sets-hold (meaning rule.now) }
+    ensures value { result ≡ isStrong (R.meaning rule.now) set }
+    ensures facts { Strong-sets-hold (R.meaning rule.now) }
 {
     !rule.may_fail(set)
 }
 
 // Whether all the boards outside the set may fail together, so that nobody need wait for more.
 pub fn ample<R: FailureRule>(rule: &R, set: u16) -> bool
-    ensures value { result ≡ isAmple (meaning rule.now) set }
-    ensures facts { Ample-sets-share (meaning rule.now) }
+    ensures value { result ≡ isAmple (R.meaning rule.now) set }
+    ensures facts { Ample-sets-share (R.meaning rule.now) }
 {
     let crew = rule.crew();
     if crew > MAX_CREW {

@@ -4,6 +4,9 @@
 // may fail together (the family), and how many sets of the family never hold the whole crew between them (the cover). `rule` is the interface, with
 // its four laws; `count`, `listed` and `either` are the rules that this crate makes; `ask` says of a set, under any rule, whether it is strong or ample,
 // with the facts that everything above rests on. Frames, votes and who sends what are left to others.
+
+#![tactic(auto)]
+
 pub mod ask;
 pub mod count;
 pub mod either;

@@ -1,5 +1,7 @@
 // What a refused call tells: a number, a byte place where a frame was at fault, and the board that passed it on.
 // Every crate above turns its own faults into a `Refusal`; which faults there are is theirs to say.
+
+#![tactic(auto)]
 ghost use Rattle.std.specs.Prelude.{◌≡◌};
 ghost use Rattle.refusal.specs.Layers.{layer-of};
 

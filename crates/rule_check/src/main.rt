@@ -2,6 +2,8 @@
 //
 // The first line asks for the rule, each further line gives a set. What a line says, what is answered to it and how the answer is written is proved
 // in the modules; here is only what no contract can speak of: the input is read, and a line is printed for each answer.
+
+#![tactic(auto)]
 mod answer;
 mod lines;
 mod number;

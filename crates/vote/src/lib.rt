@@ -2,6 +2,9 @@
 // How a board stores what it has counted, how words travel and how boards are joined is left to the crates above.
 
 // One word as a board counts it. Group and change are the board's own.
+
+#![tactic(auto)]
+
 #[derive(Clone, Copy, PartialEq, Eq, Debug)]
 pub struct Vote {
     pub sender: u8,

@@ -1,5 +1,8 @@
 // The wire: words as frames, frames as words, and the slips that carry words out.
 // What a word means, who may say it and what is made of it is left to the crates above.
+
+#![tactic(auto)]
+
 mod fault;
 mod frame;
 mod frames;

@@ -1,4 +1,6 @@
 // Stories about the wire, each proved and then run. They stand apart from the crate so that it is proved once.
+
+#![tactic(auto)]
 #[cfg(test)]
 mod tests {
     use refusal::{Layer, Refusal};

@@ -24,6 +24,6 @@ unfolding Ample-sets-share
 returns g c =
     let R = g.R.FailureRule.meaning c.args.rule.now in
     record {
-      value = c.may-fail.ensures ∙ ap R.fails c.outside.ensures ∙ as-asked R c.args.set c.crew-crew.result c.crew-crew.ensures (omega arith);
+      value = c.may_fail.ensures ∙ ap R.fails c.outside.ensures ∙ as-asked R c.args.set c.crew-crew.result c.crew-crew.ensures (omega arith);
       facts = ample-facts (g.met.R.FailureRule.lawful c.args.rule.now);
     }

@@ -7,4 +7,4 @@ use Rattle.quorum.proofs.ask.strong.Goals as goal
 
 pub returns : goal.returns
 unfolding strong Strong-sets-hold
-returns g c = record { value = ap not c.may-fail.ensures; facts = strong-facts (g.met.R.FailureRule.lawful c.args.rule.now) }
+returns g c = record { value = ap not c.may_fail.ensures; facts = strong-facts (g.met.R.FailureRule.lawful c.args.rule.now) }

@@ -5,7 +5,7 @@ use Rattle.quorum.specs.Sets.{anyPasses}
 use Rattle.quorum.specs.Listing.{held}
 use Rattle.quorum.proofs.listed.+hold_all.Given as goal
 
-abbrev pub decreases-hold-all : goal.decreases-hold-all
+abbrev pub decreases-hold-all : goal.decreases-hold_all
 decreases-hold-all l = l.more
 
 abbrev pub invariant-loop-set : goal.invariant-loop-set

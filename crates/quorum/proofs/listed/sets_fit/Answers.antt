@@ -11,9 +11,9 @@ returns-then-not-in-crew c =
     sym (and_right _ _ (sym (all-miss (inCrew c.args.crew) c.args.sets.now c.loop-set.set-index c.loop-set.invariant (omega arith) (sym c.if-not-in-crew.ensures))))
 
 pub loop-set-preserved : goal.loop-set-preserved
-loop-set-preserved c = all-hit (inCrew c.args.crew) c.args.sets.now c.loop-set.set-index c.loop-set.invariant (omega arith) (sym c.if-not-in-crew.ensures)
+loop-set-preserved c = all-hit (inCrew c.args.crew) c.args.sets.now c.loop-set.set-index c.loop-set.invariant (omega arith) (sym c.if-not-in_crew.ensures)
 
 pub returns : goal.returns
 returns c =
-    sym (and_from _ _ (le-leb (length c.args.sets.now) max-listed c.if-sets-gt-MAX-LISTED.false)
+    sym (and_from _ _ (le-leb (length c.args.sets.now) max-listed c.if-sets-gt-MAX_LISTED.false)
     (sym (all_end (inCrew c.args.crew) c.args.sets.now c.loop-set.set-index c.loop-set.invariant (omega arith))))

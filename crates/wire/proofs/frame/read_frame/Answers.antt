@@ -14,11 +14,11 @@ returns-in-err-word c =
 
 pub returns-then-end-bytes : goal.returns-then-end-bytes
 unfolding word_in
-returns-then-end-bytes c = record { value = search rules; an-accepted-frame-is-the-one-its-word-has = tt; each-word-has-one-frame = tt; the-marked-cases-hold = marked-cases-hold }
+returns-then-end-bytes c = record { value = search rules; an_accepted_frame_is_the_one_its_word_has = tt; each_word_has_one_frame = tt; the_marked_cases_hold = marked-cases-hold }
 
 pub returns : goal.returns
 unfolding word_in
 returns c =
     let xs = c.args.bytes.now in
-    let is : Ok c.in-ok-word.word ≡ word_in xs = search rules in
-    record { value = is; an-accepted-frame-is-the-one-its-word-has = accepted-is (Ok c.in-ok-word.word) xs is; each-word-has-one-frame = accepted-once (Ok c.in-ok-word.word) xs is; the-marked-cases-hold = marked-cases-hold }
+    let is : Ok c.in_ok-word.word ≡ word_in xs = search rules in
+    record { value = is; an_accepted_frame_is_the_one_its_word_has = accepted-is (Ok c.in_ok-word.word) xs is; each_word_has_one_frame = accepted-once (Ok c.in_ok-word.word) xs is; the_marked_cases_hold = marked-cases-hold }

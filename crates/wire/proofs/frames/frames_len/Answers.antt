@@ -9,5 +9,5 @@ overflow-mul-result c = omega (arith, mul-le c.count.result c.frame-len.result 4
 
 pub returns : goal.returns
 returns c =
-    ap₂ ◌*◌ c.count.ensures.value (c.frame-len.ensures.value ∙ ap (λ w. length (frame-of w)) c.word-of.ensures)
+    ap₂ ◌*◌ c.count.ensures.value (c.frame_len.ensures.value ∙ ap (λ w. length (frame-of w)) c.word_of.ensures)
     ∙ sym (frames-weigh c.args.posted.now)

@@ -20,8 +20,8 @@ loop-index-preserved c =
     let p = c.args.posted.now in
     let kind-is : flat_map frame-of (words-of-kind p (c.loop-index.index + 1)) ≡ flat_map frame-of (words-of-kind p (suc c.loop-index.index)) = ap (λ k. flat_map frame-of (words-of-kind p k)) (omega arith) in
     putting-more frame-of (λ j. words-of-kind p (suc j)) 0 c.args.buf.now 5 (omega (arith, c.requires)) c.loop-index.index c.loop-index.place c.loop-index.buf (omega arith) c.loop-index.invariant
-    c.put-kind-place.result c.put-kind-place.new.buf
-    (c.put-kind-place.ensures.value ∙ ap (λ l. c.loop-index.place + length l) kind-is) (c.put-kind-place.ensures.buffer ∙ ap (λ l. put-at c.loop-index.place l c.loop-index.buf) kind-is)
+    c.put_kind-place.result c.put_kind-place.new.buf
+    (c.put_kind-place.ensures.value ∙ ap (λ l. c.loop-index.place + length l) kind-is) (c.put_kind-place.ensures.buffer ∙ ap (λ l. put-at c.loop-index.place l c.loop-index.buf) kind-is)
 
 pub returns : goal.returns
 unfolding words_of frames-of

@@ -19,7 +19,7 @@ pub loop-value-preserved : goal.loop-value-preserved
 unfolding words-of-kind
 loop-value-preserved c =
     putting-more frame-of (if-held c.args.posted.now c.args.kind) c.args.at c.args.buf.now 9 c.requires.room c.loop-value.value c.loop-value.place c.loop-value.buf (omega arith) c.loop-value.invariant
-    c.put-held-place.result c.put-held-place.new.buf c.put-held-place.ensures.value c.put-held-place.ensures.buffer
+    c.put_held-place.result c.put_held-place.new.buf c.put_held-place.ensures.value c.put_held-place.ensures.buffer
 
 pub returns : goal.returns
 unfolding words-of-kind

@@ -20,12 +20,12 @@ returns c =
     let end = c.args.end in
     let old = c.args.buf.now in
     let fits : at + length digits ≤ length old = omega (arith, length_push digits end) in
-    let inside : c.put-number-place.result < length c.put-number-place.new.buf = omega (arith, length_push digits end) in
+    let inside : c.put_number-place.result < length c.put_number-place.new.buf = omega (arith, length_push digits end) in
     record {
       value = omega (arith, length_push digits end);
       buffer =
-          put_byte c.put-number-place.result end c.put-number-place.new.buf inside
-          ∙ ap (λ k. put-at k (end ∷ []) c.put-number-place.new.buf) c.put-number-place.ensures.value
-          ∙ ap (put-at (at + length digits) (end ∷ [])) c.put-number-place.ensures.buffer
+          put_byte c.put_number-place.result end c.put_number-place.new.buf inside
+          ∙ ap (λ k. put-at k (end ∷ []) c.put_number-place.new.buf) c.put_number-place.ensures.value
+          ∙ ap (put-at (at + length digits) (end ∷ [])) c.put_number-place.ensures.buffer
           ∙ put-put at digits old fits (end ∷ []);
     }

@@ -9,7 +9,7 @@ returns-then-not-is-digit c =
 
 pub loop-i-preserved : goal.loop-i-preserved
 loop-i-preserved c =
-    let r = goes 65536 c.args.bytes.now c.loop-i.i c.loop-i.number c.loop-i.invariant.0 c.loop-i.invariant.1 c.loop-i-test.true (sym c.is-digit.ensures ∙ c.if-not-is-digit.false) in
+    let r = goes 65536 c.args.bytes.now c.loop-i.i c.loop-i.number c.loop-i.invariant.0 c.loop-i.invariant.1 c.loop-i-test.true (sym c.is_digit.ensures ∙ c.if-not-is_digit.false) in
     (c.min-number.ensures ∙ r.0, r.1)
 
 pub returns : goal.returns

@@ -29,9 +29,9 @@ returns c =
       buffer =
           put_five c.args.at _ _ _ _ (field-bytes w.group comma) (field-bytes w.change comma) (field-bytes w.sender comma) (field-bytes w.kind comma) (field-bytes w.value line-feed) c.args.buf.now _ _ _ _ _
           (omega (arith, frame-length w))
-          c.put-field-change.ensures.buffer c.put-field-change.ensures.value
-          c.put-field-sender.ensures.buffer c.put-field-sender.ensures.value
-          c.put-field-kind.ensures.buffer c.put-field-kind.ensures.value
+          c.put_field-change.ensures.buffer c.put_field-change.ensures.value
+          c.put_field-sender.ensures.buffer c.put_field-sender.ensures.value
+          c.put_field-kind.ensures.buffer c.put_field-kind.ensures.value
           c.put-field-value.ensures.buffer c.put-field-value.ensures.value
           c.put-field.ensures.buffer;
     }

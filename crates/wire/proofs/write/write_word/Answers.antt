@@ -13,12 +13,12 @@ returns c =
     let w = c.args.word in
     let bytes = frame-of w in
     let room = length c.args.buf.now in
-    let none : range-fault w ≡ None = sym c.range-fault.ensures ∙ c.in-default.is in
+    let none : range-fault w ≡ None = sym c.range_fault.ensures ∙ c.in_default.is in
     let ranges = none-ranges w none in
-    let len : c.put-frame-end.result ≡ length bytes = omega arith in
+    let len : c.put_frame-end.result ≡ length bytes = omega arith in
     let fits : length bytes ≤ room = omega arith in
     let written : c.clear-from.new.buf ≡ zero-filled bytes room =
-    put-and-clear bytes c.put-frame-end.result c.args.buf.now c.put-frame-end.new.buf c.clear-from.new.buf c.put-frame-end.ensures.buffer c.put-frame-end.ensures.value (omega arith) c.clear-from.ensures in
+    put-and-clear bytes c.put_frame-end.result c.args.buf.now c.put_frame-end.new.buf c.clear-from.new.buf c.put_frame-end.ensures.buffer c.put_frame-end.ensures.value (omega arith) c.clear-from.ensures in
     record {
       value = ap Ok len ∙ sym (ap (λ o. unless o (fitting bytes room)) none ∙ cond-true (leb (length bytes) room) (Ok (length bytes)) (Err (fault 20 0)) (le-leb (length bytes) room fits));
       buffer = written;

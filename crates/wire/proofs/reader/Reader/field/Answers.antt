@@ -22,7 +22,7 @@ returns-then-zero-leads c = record {
 pub returns-then-not-within : goal.returns-then-not-within
 returns-then-not-within c = record {
   value = field_out c.args.self.now.bytes.now c.args.self.now.place _ _ c.args.low c.args.high c.digits-number.ensures.value c.digits-number.ensures.len c.if-len-eq0.false
-      (sym c.zero-leads.ensures ∙ c.if-zero-leads.false) (omega arith) (omega arith) (sym c.within.ensures ∙ c.if-not-within.true);
+      (sym c.zero_leads.ensures ∙ c.if-zero_leads.false) (omega arith) (omega arith) (sym c.within.ensures ∙ c.if-not-within.true);
   range = tt;
   place = search rules;
   same = search rules;
@@ -39,5 +39,5 @@ invariant-of-self c = (run_inside c.args.self.now.bytes.now c.args.self.now.plac
 pub returns : goal.returns
 returns c =
     let r = field-good c.args.self.now.bytes.now c.args.self.now.place c.digits-number.result.0 c.digits-number.result.1 c.args.low c.args.high c.digits-number.ensures.value c.digits-number.ensures.len c.if-len-eq0.false
-    (sym c.zero-leads.ensures ∙ c.if-zero-leads.false) (omega arith) (omega arith) (sym c.within.ensures ∙ c.if-not-within.false) in
+    (sym c.zero_leads.ensures ∙ c.if-zero_leads.false) (omega arith) (omega arith) (sym c.within.ensures ∙ c.if-not-within.false) in
     record { value = r.0; range = (r.1, r.2); place = refl; same = refl }

@@ -7,5 +7,5 @@ use Rattle.wire.proofs.slip.Slip.empty.Goals as goal
 pub returns : goal.returns
 returns c =
     let p = none-posted c.args.group c.args.change c.args.sender in
-    let made = c.holding.ensures ∙ ap (λ q. unless (range-fault (word_of q 1 0)) (Ok q)) c.none-posted.ensures in
+    let made = c.holding.ensures ∙ ap (λ q. unless (range-fault (word_of q 1 0)) (Ok q)) c.none_posted.ensures in
     record { value = made; no_words = made-empty c.holding.result (range-fault (word_of p 1 0)) p made (none-posted-none c.args.group c.args.change c.args.sender) }

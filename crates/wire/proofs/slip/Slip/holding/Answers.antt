@@ -9,5 +9,5 @@ invariant-of-result c = (address-sound c.args.posted c.word-of.result c.word-of.
 
 pub returns : goal.returns
 returns c =
-    let none : range-fault (word_of c.args.posted 1 0) ≡ None = ap range-fault (sym c.word-of.ensures) ∙ sym c.range-fault.ensures ∙ c.in-default.is in
+    let none : range-fault (word_of c.args.posted 1 0) ≡ None = ap range-fault (sym c.word_of.ensures) ∙ sym c.range_fault.ensures ∙ c.in_default.is in
     sym (ap (λ o. unless o (Ok c.args.posted)) none)

@@ -18,7 +18,7 @@ invariant-of-self c =
 
 pub returns : goal.returns
 returns c =
-    let none : range-fault (word_of c.args.self.now.posted c.args.kind c.args.value) ≡ None = ap range-fault (sym c.word-of.ensures) ∙ sym c.range-fault.ensures ∙ c.in-default.is in
+    let none : range-fault (word_of c.args.self.now.posted c.args.kind c.args.value) ≡ None = ap range-fault (sym c.word_of.ensures) ∙ sym c.range_fault.ensures ∙ c.in_default.is in
     record {
       value = sym (ap (λ o. unless o (Ok tt)) none);
       posted = c.with-word-self.ensures.value;

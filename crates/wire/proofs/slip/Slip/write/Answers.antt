@@ -36,18 +36,18 @@ pub returns : goal.returns
 returns c =
     let bytes = frames-of c.args.self.now.posted in
     let room = length c.args.buf.now in
-    let len : c.put-frames-end.result ≡ length bytes = omega arith in
+    let len : c.put_frames-end.result ≡ length bytes = omega arith in
     let fits : length bytes ≤ room = omega arith in
-    let written : c.clear-from.new.buf ≡ zero-filled bytes room =
-    put-and-clear bytes c.put-frames-end.result c.args.buf.now c.put-frames-end.new.buf c.clear-from.new.buf c.put-frames-end.ensures.buffer c.put-frames-end.ensures.value (omega arith) c.clear-from.ensures in
+    let written : c.clear_from.new.buf ≡ zero-filled bytes room =
+    put-and-clear bytes c.put_frames-end.result c.args.buf.now c.put_frames-end.new.buf c.clear_from.new.buf c.put_frames-end.ensures.buffer c.put_frames-end.ensures.value (omega arith) c.clear_from.ensures in
     record {
       value = ap Ok len ∙ sym (cond-true (leb (length bytes) room) (Ok (length bytes)) (Err (fault 20 0)) (le-leb (length bytes) room fits));
       buffer = written;
       posted = c.none-posted-self.ensures;
-      a-written-slip-is-empty = ap words_of c.none-posted-self.ensures ∙ none-posted-none c.args.self.now.posted.group c.args.self.now.posted.change c.args.self.now.posted.sender;
-      each-frame-reads-back-as-its-word = reads-back c.args.self.now.posted c.args.self.now.sound;
-      at-most-19-bytes-for-each-word = omega (arith, frames-short c.args.self.now.posted c.args.self.now.sound);
-      a-buffer-of-19-bytes-for-each-word-is-enough = λ _. refl;
-      a-buffer-of-855-bytes-is-always-enough = λ _. refl;
-      no-byte-behind-is-other-than-zero = λ k le. ap (λ b. get_or b k 0) written ∙ zero-behind bytes room k (omega arith);
+      a_written_slip_is_empty = ap words_of c.none-posted-self.ensures ∙ none-posted-none c.args.self.now.posted.group c.args.self.now.posted.change c.args.self.now.posted.sender;
+      each_frame_reads_back_as_its_word = reads-back c.args.self.now.posted c.args.self.now.sound;
+      at_most_19_bytes_for_each_word = omega (arith, frames-short c.args.self.now.posted c.args.self.now.sound);
+      a_buffer_of_19_bytes_for_each_word_is_enough = λ _. refl;
+      a_buffer_of_855_bytes_is_always_enough = λ _. refl;
+      no_byte_behind_is_other_than_zero = λ k le. ap (λ b. get_or b k 0) written ∙ zero-behind bytes room k (omega arith);
     }
