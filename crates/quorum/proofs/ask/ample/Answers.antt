@@ -10,9 +10,9 @@ use Rattle.quorum.proofs.ask.ample.Goals as goal
 as-asked : (R : Rule) (s n : ℕ) → n ≡ R.crew → n ≤ max-crew → R.fails (rest n s) ≡ ample R s
 as-asked R s n e h = ap (λ (k : ℕ). R.fails (rest k s)) e ∙ sym (ample-is R s (omega arith))
 
-pub returns-then-crew-gt-MAX-CREW : goal.returns-then-crew-gt-MAX-CREW
+pub returns-then-crew-gt-MAX_CREW : goal.returns-then-crew-gt-MAX_CREW
 unfolding Ample-sets-share
-returns-then-crew-gt-MAX-CREW g c =
+returns-then-crew-gt-MAX_CREW g c =
     let R = g.R.FailureRule.meaning c.args.rule.now in
     record {
       value = sym (ample-none R c.args.set (omega (arith, c.crew-crew.ensures)));

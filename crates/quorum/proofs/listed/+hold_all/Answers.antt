@@ -12,16 +12,16 @@ returns-then-outside-eq0 t c = held_whole c.args.crew c.args.sets.now c.args.hav
 pub returns-then-more-eq0 : goal.returns-then-more-eq0
 returns-then-more-eq0 t c = held-by-none c.args.crew c.args.sets.now c.args.have c.args.more (omega arith) (λ e. c.if-outside-eq0.false (c.outside.ensures ∙ e))
 
-pub returns-then-hold-all : goal.returns-then-hold-all
-returns-then-hold-all t c =
+pub returns-then-hold_all : goal.returns-then-hold_all
+returns-then-hold_all t c =
     any-hit (λ m. held c.args.crew c.args.sets.now (c.args.more - 1) (bit_or c.args.have m)) c.args.sets.now c.loop-set.set-index c.loop-set.invariant (omega arith)
-    (sym c.if-hold-all.ensures)
+    (sym c.if-hold_all.ensures)
     ∙ held_by c.args.crew c.args.sets.now c.args.have c.args.more c.if-more-eq0.false (λ e. c.if-outside-eq0.false (c.outside.ensures ∙ e))
 
 pub loop-set-preserved : goal.loop-set-preserved
 loop-set-preserved t c =
     any-miss (λ m. held c.args.crew c.args.sets.now (c.args.more - 1) (bit_or c.args.have m)) c.args.sets.now c.loop-set.set-index c.loop-set.invariant (omega arith)
-    (sym c.if-hold-all.ensures)
+    (sym c.if-hold_all.ensures)
 
 pub returns : goal.returns
 returns t c =

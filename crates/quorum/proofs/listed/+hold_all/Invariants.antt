@@ -5,8 +5,8 @@ use Rattle.quorum.specs.Sets.{anyPasses}
 use Rattle.quorum.specs.Listing.{held}
 use Rattle.quorum.proofs.listed.+hold_all.Given as goal
 
-abbrev pub decreases-hold-all : goal.decreases-hold_all
-decreases-hold-all l = l.more
+abbrev pub decreases-hold_all : goal.decreases-hold_all
+decreases-hold_all l = l.more
 
 abbrev pub invariant-loop-set : goal.invariant-loop-set
 invariant-loop-set l =

@@ -6,9 +6,9 @@ use Rattle.quorum.specs.Sets.{inCrew}
 use Rattle.quorum.proofs.Walks.{all-hit, all-miss, all_end}
 use Rattle.quorum.proofs.listed.sets_fit.Goals as goal
 
-pub returns-then-not-in-crew : goal.returns-then-not-in-crew
-returns-then-not-in-crew c =
-    sym (and_right _ _ (sym (all-miss (inCrew c.args.crew) c.args.sets.now c.loop-set.set-index c.loop-set.invariant (omega arith) (sym c.if-not-in-crew.ensures))))
+pub returns-then-not-in_crew : goal.returns-then-not-in_crew
+returns-then-not-in_crew c =
+    sym (and_right _ _ (sym (all-miss (inCrew c.args.crew) c.args.sets.now c.loop-set.set-index c.loop-set.invariant (omega arith) (sym c.if-not-in_crew.ensures))))
 
 pub loop-set-preserved : goal.loop-set-preserved
 loop-set-preserved c = all-hit (inCrew c.args.crew) c.args.sets.now c.loop-set.set-index c.loop-set.invariant (omega arith) (sym c.if-not-in_crew.ensures)

@@ -6,8 +6,8 @@ use Rattle.quorum.specs.Sets.{rest}
 use Rattle.quorum.proofs.Masks.{rest-is}
 use Rattle.quorum.proofs.set.outside.Goals as goal
 
-pub overflow-sub-left : goal.overflow-sub-left
-overflow-sub-left c = and_le_l _ _
+pub overflow_sub-left : goal.overflow_sub-left
+overflow_sub-left c = and_le_l _ _
 
 pub returns : goal.returns
 returns c =

@@ -4,13 +4,13 @@ use Rattle.wire.proofs.FrameText.{accepted-is, accepted-once}
 use Rattle.wire.proofs.MarkedCases.{marked-cases-hold}
 use Rattle.wire.proofs.frame.read_frame.Goals as goal
 
-pub returns-in-err-word : goal.returns-in-err-word
+pub returns-in_err-word : goal.returns-in_err-word
 unfolding word_in
-returns-in-err-word c =
-    let r = c.from-residual.result in
+returns-in_err-word c =
+    let r = c.from_residual.result in
     let xs = c.args.bytes.now in
     let is : r ≡ word_in xs = search rules in
-    record { value = is; an-accepted-frame-is-the-one-its-word-has = accepted-is r xs is; each-word-has-one-frame = accepted-once r xs is; the-marked-cases-hold = marked-cases-hold }
+    record { value = is; an_accepted_frame_is_the_one_its_word_has = accepted-is r xs is; each_word_has_one_frame = accepted-once r xs is; the_marked_cases_hold = marked-cases-hold }
 
 pub returns-then-end-bytes : goal.returns-then-end-bytes
 unfolding word_in

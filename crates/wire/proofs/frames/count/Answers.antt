@@ -4,11 +4,11 @@ use Rattle.wire.specs.Slips.{in_order, words-of-kind, words_of}
 use Rattle.wire.proofs.Counting.{count-more, ones-of-nine}
 use Rattle.wire.proofs.frames.count.Goals as goal
 
-pub overflow-cast-words : goal.overflow-cast-words
-overflow-cast-words c = omega (arith, ones-of-nine (get_or c.args.posted.now.kinds c.loop-index.index 0))
+pub overflow_cast-words : goal.overflow_cast-words
+overflow_cast-words c = omega (arith, ones-of-nine (get_or c.args.posted.now.kinds c.loop-index.index 0))
 
-pub overflow-add-words : goal.overflow-add-words
-overflow-add-words c = omega (arith, ones-of-nine (get_or c.args.posted.now.kinds c.loop-index.index 0))
+pub overflow_add-words : goal.overflow_add-words
+overflow_add-words c = omega (arith, ones-of-nine (get_or c.args.posted.now.kinds c.loop-index.index 0))
 
 pub loop-index-preserved : goal.loop-index-preserved
 loop-index-preserved c =

@@ -4,8 +4,8 @@ use Rattle.wire.specs.Frames.{frame-of}
 use Rattle.wire.proofs.Counting.{frames-weigh}
 use Rattle.wire.proofs.frames.frames_len.Goals as goal
 
-pub overflow-mul-result : goal.overflow-mul-result
-overflow-mul-result c = omega (arith, mul-le c.count.result c.frame-len.result 45 30 c.count.ensures.bound c.frame-len.ensures.bound)
+pub overflow_mul-result : goal.overflow_mul-result
+overflow_mul-result c = omega (arith, mul-le c.count.result c.frame_len.result 45 30 c.count.ensures.bound c.frame_len.ensures.bound)
 
 pub returns : goal.returns
 returns c =

@@ -6,9 +6,9 @@ use Rattle.wire.specs.Writes.{put-at}
 use Rattle.wire.proofs.InOrder.{Putting, putting-room, putting-more}
 use Rattle.wire.proofs.frames.put_frames.Goals as goal
 
-pub put-kind-place-requires : goal.put-kind-place-requires
+pub put_kind-place-requires : goal.put_kind-place-requires
 unfolding words_of frames-of
-put-kind-place-requires c =
+put_kind-place-requires c =
     let p = c.args.posted.now in
     let kind-is : words-of-kind p (suc c.loop-index.index) ≡ words-of-kind p (c.loop-index.index + 1) = ap (words-of-kind p) (omega arith) in
     let room = putting-room frame-of (λ j. words-of-kind p (suc j)) 0 c.args.buf.now 5 (omega (arith, c.requires)) c.loop-index.index c.loop-index.place c.loop-index.buf (omega arith) c.loop-index.invariant (omega arith) in

@@ -7,9 +7,9 @@ use Rattle.wire.proofs.frames.put_kind.Goals as goal
 pub loop-value-init : goal.loop-value-init
 loop-value-init c = putting-none frame-of (if-held c.args.posted.now c.args.kind) c.args.at c.args.buf.now
 
-pub put-held-place-requires : goal.put-held-place-requires
+pub put_held-place-requires : goal.put_held-place-requires
 unfolding words-of-kind
-put-held-place-requires c = record {
+put_held-place-requires c = record {
   kind = c.requires.kind;
   value = omega arith;
   room = putting-room frame-of (if-held c.args.posted.now c.args.kind) c.args.at c.args.buf.now 9 c.requires.room c.loop-value.value c.loop-value.place c.loop-value.buf (omega arith) c.loop-value.invariant (omega arith);

@@ -4,14 +4,14 @@ use Rattle.wire.specs.Writes.{put-at}
 use Rattle.wire.proofs.PutAt.{put_byte, put-put}
 use Rattle.wire.proofs.number.put_field.Goals as goal
 
-pub put-number-place-requires : goal.put-number-place-requires
-put-number-place-requires c = omega (arith, length_push (decimal c.args.number) c.args.end)
+pub put_number-place-requires : goal.put_number-place-requires
+put_number-place-requires c = omega (arith, length_push (decimal c.args.number) c.args.end)
 
 pub bounds-buf-place : goal.bounds-buf-place
 bounds-buf-place c = omega (arith, length_push (decimal c.args.number) c.args.end)
 
-pub overflow-add-result : goal.overflow-add-result
-overflow-add-result c = omega (arith, length_push (decimal c.args.number) c.args.end)
+pub overflow_add-result : goal.overflow_add-result
+overflow_add-result c = omega (arith, length_push (decimal c.args.number) c.args.end)
 
 pub returns : goal.returns
 returns c =

@@ -3,8 +3,8 @@ use Rattle.std.proofs.lemmas.Fmt.{length-decimal-le}
 use Rattle.wire.proofs.Lows.{width-more, width-last}
 use Rattle.wire.proofs.number.width.Goals as goal
 
-pub overflow-add-digits : goal.overflow-add-digits
-overflow-add-digits c = omega (arith, length-decimal-le 5 c.args.number (lit< tt) (omega arith) (omega arith))
+pub overflow_add-digits : goal.overflow_add-digits
+overflow_add-digits c = omega (arith, length-decimal-le 5 c.args.number (lit< tt) (omega arith) (omega arith))
 
 pub loop-left-preserved : goal.loop-left-preserved
 loop-left-preserved c = (omega arith, omega (arith, width-more c.loop-left.left (omega arith) c.loop-left-test.true))

@@ -5,20 +5,20 @@ use Rattle.wire.proofs.FrameText.{frame-length}
 use Rattle.wire.proofs.PutAt.{put_five}
 use Rattle.wire.proofs.write.put_frame.Goals as goal
 
-pub put-field-change-requires : goal.put-field-change-requires
-put-field-change-requires c = omega (arith, frame-length c.args.word)
+pub put_field-change-requires : goal.put_field-change-requires
+put_field-change-requires c = omega (arith, frame-length c.args.word)
 
-pub put-field-sender-requires : goal.put-field-sender-requires
-put-field-sender-requires c = omega (arith, frame-length c.args.word)
+pub put_field-sender-requires : goal.put_field-sender-requires
+put_field-sender-requires c = omega (arith, frame-length c.args.word)
 
-pub put-field-kind-requires : goal.put-field-kind-requires
-put-field-kind-requires c = omega (arith, frame-length c.args.word)
+pub put_field-kind-requires : goal.put_field-kind-requires
+put_field-kind-requires c = omega (arith, frame-length c.args.word)
 
-pub put-field-value-requires : goal.put-field-value-requires
-put-field-value-requires c = omega (arith, frame-length c.args.word)
+pub put_field-value-requires : goal.put_field-value-requires
+put_field-value-requires c = omega (arith, frame-length c.args.word)
 
-pub put-field-requires : goal.put-field-requires
-put-field-requires c = omega (arith, frame-length c.args.word)
+pub put_field-requires : goal.put_field-requires
+put_field-requires c = omega (arith, frame-length c.args.word)
 
 pub returns : goal.returns
 unfolding frame-of
@@ -32,6 +32,6 @@ returns c =
           c.put_field-change.ensures.buffer c.put_field-change.ensures.value
           c.put_field-sender.ensures.buffer c.put_field-sender.ensures.value
           c.put_field-kind.ensures.buffer c.put_field-kind.ensures.value
-          c.put-field-value.ensures.buffer c.put-field-value.ensures.value
-          c.put-field.ensures.buffer;
+          c.put_field-value.ensures.buffer c.put_field-value.ensures.value
+          c.put_field.ensures.buffer;
     }

@@ -17,12 +17,12 @@ returns c =
     let ranges = none-ranges w none in
     let len : c.put_frame-end.result ≡ length bytes = omega arith in
     let fits : length bytes ≤ room = omega arith in
-    let written : c.clear-from.new.buf ≡ zero-filled bytes room =
-    put-and-clear bytes c.put_frame-end.result c.args.buf.now c.put_frame-end.new.buf c.clear-from.new.buf c.put_frame-end.ensures.buffer c.put_frame-end.ensures.value (omega arith) c.clear-from.ensures in
+    let written : c.clear_from.new.buf ≡ zero-filled bytes room =
+    put-and-clear bytes c.put_frame-end.result c.args.buf.now c.put_frame-end.new.buf c.clear_from.new.buf c.put_frame-end.ensures.buffer c.put_frame-end.ensures.value (omega arith) c.clear_from.ensures in
     record {
       value = ap Ok len ∙ sym (ap (λ o. unless o (fitting bytes room)) none ∙ cond-true (leb (length bytes) room) (Ok (length bytes)) (Err (fault 20 0)) (le-leb (length bytes) room fits));
       buffer = written;
-      the-frame-reads-back-as-the-word = ap₂ (λ n b. word_in (take n b)) len written ∙ ap word_in (front-filled bytes room) ∙ word-reads w ranges;
-      a-frame-is-at-most-19-bytes = omega (arith, frame-max-length w ranges);
-      no-byte-behind-is-other-than-zero = λ k le. ap (λ b. get_or b k 0) written ∙ zero-behind bytes room k (omega arith);
+      the_frame_reads_back_as_the_word = ap₂ (λ n b. word_in (take n b)) len written ∙ ap word_in (front-filled bytes room) ∙ word-reads w ranges;
+      a_frame_is_at_most_19_bytes = omega (arith, frame-max-length w ranges);
+      no_byte_behind_is_other_than_zero = λ k le. ap (λ b. get_or b k 0) written ∙ zero-behind bytes room k (omega arith);
     }

@@ -2,13 +2,13 @@ use Rattle.std.proofs.Common.{rules}
 use Rattle.wire.specs.Frames.{ended-field}
 use Rattle.wire.proofs.reader.Reader.ended_field.Goals as goal
 
-pub returns-in-err-number : goal.returns-in-err-number
+pub returns-in_err-number : goal.returns-in_err-number
 unfolding ended-field
-returns-in-err-number c = search rules
+returns-in_err-number c = search rules
 
-pub returns-in-err-place : goal.returns-in-err-place
+pub returns-in_err-place : goal.returns-in_err-place
 unfolding ended-field
-returns-in-err-place c = search rules
+returns-in_err-place c = search rules
 
 pub returns : goal.returns
 unfolding ended-field

@@ -10,10 +10,10 @@ returns-then-len-eq0 c = record {
   same = search rules;
 }
 
-pub returns-then-zero-leads : goal.returns-then-zero-leads
-returns-then-zero-leads c = record {
+pub returns-then-zero_leads : goal.returns-then-zero_leads
+returns-then-zero_leads c = record {
   value = field-zero c.args.self.now.bytes.now c.args.self.now.place _ _ c.args.low c.args.high c.digits-number.ensures.value c.digits-number.ensures.len c.if-len-eq0.false
-      (sym c.zero-leads.ensures ∙ c.if-zero-leads.true);
+      (sym c.zero_leads.ensures ∙ c.if-zero_leads.true);
   range = tt;
   place = search rules;
   same = search rules;
@@ -28,13 +28,13 @@ returns-then-not-within c = record {
   same = search rules;
 }
 
-pub overflow-add-self : goal.overflow-add-self
-overflow-add-self c =
+pub overflow_add-self : goal.overflow_add-self
+overflow_add-self c =
     let r = run_inside c.args.self.now.bytes.now c.args.self.now.place _ _ c.args.low c.args.high c.digits-number.ensures.value c.digits-number.ensures.len c.args.self.now.inside in
     search rules
 
-pub invariant-of-self : goal.invariant-of-self
-invariant-of-self c = (run_inside c.args.self.now.bytes.now c.args.self.now.place _ _ c.args.low c.args.high c.digits-number.ensures.value c.digits-number.ensures.len c.args.self.now.inside, tt)
+pub invariant_of-self : goal.invariant_of-self
+invariant_of-self c = record { inside = run_inside c.args.self.now.bytes.now c.args.self.now.place _ _ c.args.low c.args.high c.digits-number.ensures.value c.digits-number.ensures.len c.args.self.now.inside }
 
 pub returns : goal.returns
 returns c =

@@ -4,8 +4,8 @@ use Rattle.wire.specs.Writes.{range-fault, unless}
 use Rattle.wire.proofs.Slipped.{address-sound}
 use Rattle.wire.proofs.slip.Slip.holding.Goals as goal
 
-pub invariant-of-result : goal.invariant-of-result
-invariant-of-result c = (address-sound c.args.posted c.word-of.result c.word-of.ensures (sym c.range-fault.ensures ∙ c.in-default.is), tt)
+pub invariant_of-result : goal.invariant_of-result
+invariant_of-result c = record { sound = address-sound c.args.posted c.word_of.result c.word_of.ensures (sym c.range_fault.ensures ∙ c.in_default.is) }
 
 pub returns : goal.returns
 returns c =

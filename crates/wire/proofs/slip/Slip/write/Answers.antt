@@ -8,13 +8,13 @@ use Rattle.wire.proofs.PutAt.{put-and-clear, zero-behind}
 use Rattle.wire.proofs.Slipped.{same_address, none-posted-none, reads-back, frames-short}
 use Rattle.wire.proofs.slip.Slip.write.Goals as goal
 
-pub invariant-of-self : goal.invariant-of-self
-invariant-of-self c =
-    let e = c.none-posted-self.ensures in
-    (same_address c.args.self.now.posted c.none-posted-self.result (ap (λ p. p.group) e) (ap (λ p. p.change) e) (ap (λ p. p.sender) e) c.args.self.now.sound, tt)
+pub invariant_of-self : goal.invariant_of-self
+invariant_of-self c =
+    let e = c.none_posted-self.ensures in
+    record { sound = same_address c.args.self.now.posted c.none_posted-self.result (ap (λ p. p.group) e) (ap (λ p. p.change) e) (ap (λ p. p.sender) e) c.args.self.now.sound }
 
-pub returns-then-buf-frames-len : goal.returns-then-buf-frames-len
-returns-then-buf-frames-len c =
+pub returns-then-buf-frames_len : goal.returns-then-buf-frames_len
+returns-then-buf-frames_len c =
     let p = c.args.self.now.posted in
     let short = frames-short p c.args.self.now.sound in
     let few = words-le p in
@@ -24,12 +24,12 @@ returns-then-buf-frames-len c =
       value = search rules;
       buffer = search rules;
       posted = search rules;
-      a-written-slip-is-empty = tt;
-      each-frame-reads-back-as-its-word = tt;
-      at-most-19-bytes-for-each-word = tt;
-      a-buffer-of-19-bytes-for-each-word-is-enough = λ h. absurd (no_room h);
-      a-buffer-of-855-bytes-is-always-enough = λ h. absurd (no-855 h);
-      no-byte-behind-is-other-than-zero = tt;
+      a_written_slip_is_empty = tt;
+      each_frame_reads_back_as_its_word = tt;
+      at_most_19_bytes_for_each_word = tt;
+      a_buffer_of_19_bytes_for_each_word_is_enough = λ h. absurd (no_room h);
+      a_buffer_of_855_bytes_is_always_enough = λ h. absurd (no-855 h);
+      no_byte_behind_is_other_than_zero = tt;
     }
 
 pub returns : goal.returns
@@ -43,8 +43,8 @@ returns c =
     record {
       value = ap Ok len ∙ sym (cond-true (leb (length bytes) room) (Ok (length bytes)) (Err (fault 20 0)) (le-leb (length bytes) room fits));
       buffer = written;
-      posted = c.none-posted-self.ensures;
-      a_written_slip_is_empty = ap words_of c.none-posted-self.ensures ∙ none-posted-none c.args.self.now.posted.group c.args.self.now.posted.change c.args.self.now.posted.sender;
+      posted = c.none_posted-self.ensures;
+      a_written_slip_is_empty = ap words_of c.none_posted-self.ensures ∙ none-posted-none c.args.self.now.posted.group c.args.self.now.posted.change c.args.self.now.posted.sender;
       each_frame_reads_back_as_its_word = reads-back c.args.self.now.posted c.args.self.now.sound;
       at_most_19_bytes_for_each_word = omega (arith, frames-short c.args.self.now.posted c.args.self.now.sound);
       a_buffer_of_19_bytes_for_each_word_is_enough = λ _. refl;
