@@ -40,7 +40,7 @@ fn kept(settings: &Settings) -> Fitting
 impl<R: FailureRule + Drop> Fitted<R> {
     // The fitted board, or what stands against it.
     pub fn fit(rule: R, settings: Settings) -> Result<Fitted<R>, BoardFault>
-        ensures { MatchResult result (λ b. (settings-fault (meaning rule) settings ≡ None) × (b.rule ≡ rule) × Keeps settings b.fitting.fit) (λ e. settings-fault (meaning rule) settings ≡ Some e) }
+        ensures { MatchResult result (λ b. (settings-fault (R.meaning rule) settings ≡ None) × (b.rule ≡ rule) × Keeps settings b.fitting.fit) (λ e. settings-fault (R.meaning rule) settings ≡ Some e) }
     {
         if let Some(fault) = settings_fault(&rule, &settings) {
             return Err(fault);

@@ -81,8 +81,8 @@ impl Fitting {
         port: u8,
         bytes: &[u8],
     ) -> Result<(Taken, Slip), BoardFault>
-        ensures accepted { IfOk result (λ x. Accepts (meaning rule.now) self.now.fit port bytes.now state.old state.new x.0 x.1.posted) }
-        ensures refused { IfErr result (λ e. (word-taken (meaning rule.now) self.now.fit port bytes.now ≡ Err e) × (state.new ≡ state.old)) }
+        ensures accepted { IfOk result (λ x. Accepts (R.meaning rule.now) self.now.fit port bytes.now state.old state.new x.0 x.1.posted) }
+        ensures refused { IfErr result (λ e. (word-taken (R.meaning rule.now) self.now.fit port bytes.now ≡ Err e) × (state.new ≡ state.old)) }
     {
         let fit = self.fit;
         let word = word_taken(rule, &fit, port, bytes)?;

@@ -39,7 +39,7 @@ pub(crate) fn within(low: u32, high: u32, number: u32) -> bool
 
 // What stands against fitting a board with these settings under the rule, by rising number.
 pub fn settings_fault<R: FailureRule>(rule: &R, settings: &Settings) -> Option<BoardFault>
-    ensures { result ≡ settings-fault (meaning rule.now) settings.now }
+    ensures { result ≡ settings-fault (R.meaning rule.now) settings.now }
 {
     let crew = rule.crew() as u32;
     let cover = rule.cover() as u32;

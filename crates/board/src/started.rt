@@ -28,9 +28,9 @@ impl<R: FailureRule> Fitted<R> {
     // Starts the board, which is then no longer merely fitted. The slip has its first word.
     pub fn start(self) -> (Started<R>, Slip)
         ensures same { (result.0.rule ≡ self.rule) × (result.0.fitting ≡ self.fitting) }
-        ensures state { result.0.state ≡ record_of (meaning self.rule) self.fitting.fit [] }
-        ensures slip { result.1.posted ≡ first-posted (meaning self.rule) self.fitting.fit }
-        ensures keeps { Board-keeps (meaning self.rule) self.fitting.fit }
+        ensures state { result.0.state ≡ record_of (R.meaning self.rule) self.fitting.fit [] }
+        ensures slip { result.1.posted ≡ first-posted (R.meaning self.rule) self.fitting.fit }
+        ensures keeps { Board-keeps (R.meaning self.rule) self.fitting.fit }
         ensures the_marked_cases_hold { Marked-cases-hold }
     {
         let Fitted { rule, fitting } = self;
@@ -51,8 +51,8 @@ impl<R: FailureRule> Started<R> {
     // Takes a frame on a port: the word is counted, or found counted already, and the slip has the words just posted; or it is refused, and nothing changes.
     pub fn take(&mut self, port: u8, bytes: &[u8]) -> Result<(Taken, Slip), BoardFault>
         ensures same { (self.new.rule ≡ self.old.rule) × (self.new.fitting ≡ self.old.fitting) }
-        ensures accepted { IfOk result (λ x. Accepts (meaning self.old.rule) self.old.fitting.fit port bytes.now self.old.state self.new.state x.0 x.1.posted) }
-        ensures refused { IfErr result (λ e. (word-taken (meaning self.old.rule) self.old.fitting.fit port bytes.now ≡ Err e) × (self.new.state ≡ self.old.state)) }
+        ensures accepted { IfOk result (λ x. Accepts (R.meaning self.old.rule) self.old.fitting.fit port bytes.now self.old.state self.new.state x.0 x.1.posted) }
+        ensures refused { IfErr result (λ e. (word-taken (R.meaning self.old.rule) self.old.fitting.fit port bytes.now ≡ Err e) × (self.new.state ≡ self.old.state)) }
     {
         let mut state = self.state;
         let answer = self.fitting.take(&self.rule, &mut state, port, bytes);
@@ -62,14 +62,14 @@ impl<R: FailureRule> Started<R> {
 
     // What the board has decided, if it has.
     pub fn decided(&self) -> Option<Decision>
-        ensures { Decides (meaning self.now.rule) self.now.fitting.fit self.now.state result }
+        ensures { Decides (R.meaning self.now.rule) self.now.fitting.fit self.now.state result }
     {
         self.state.decided()
     }
 
     // What the lamp is to do, once the board has decided.
     pub fn order(&self) -> Option<Order>
-        ensures { Orders (meaning self.now.rule) self.now.fitting.fit self.now.state result }
+        ensures { Orders (R.meaning self.now.rule) self.now.fitting.fit self.now.state result }
     {
         match self.decided() {
             None => None,

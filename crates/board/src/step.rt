@@ -15,10 +15,10 @@ pub(crate) fn step<R: FailureRule>(
     state: Record,
     vote: Vote,
 ) -> (Record, Option<News>)
-    requires rule { ((meaning rule.now).crew ≤ 16) × (1 ≤ (meaning rule.now).cover) }
+    requires rule { ((R.meaning rule.now).crew ≤ 16) × (1 ≤ (R.meaning rule.now).cover) }
     requires fit { fit.now.characters ≤ 8 }
-    requires vote { (vote.sender < (meaning rule.now).crew) × ((1 ≤ vote.kind) × ((vote.kind ≤ kinds-used fit.now.method fit.now.depth) × (vote.value ≤ fit.now.characters))) }
-    ensures { Counts (meaning rule.now) fit.now vote state result.0 result.1 }
+    requires vote { (vote.sender < (R.meaning rule.now).crew) × ((1 ≤ vote.kind) × ((vote.kind ≤ kinds-used fit.now.method fit.now.depth) × (vote.value ≤ fit.now.characters))) }
+    ensures { Counts (R.meaning rule.now) fit.now vote state result.0 result.1 }
 {
     // a record of the other method shows no history of this board
     match fit.method {

@@ -54,7 +54,7 @@ fn word_fault(fit: &Fit, port: u8, word: Word) -> Option<BoardFault>
 
 // What stands against the port.
 fn port_fault<R: FailureRule>(rule: &R, port: u8) -> Option<BoardFault>
-    ensures { result ≡ port-fault (meaning rule.now) port }
+    ensures { result ≡ port-fault (R.meaning rule.now) port }
 {
     let crew = rule.crew();
     let cover = rule.cover() as u32;
@@ -84,7 +84,7 @@ pub(crate) fn word_taken<R: FailureRule>(
     port: u8,
     bytes: &[u8],
 ) -> Result<Word, BoardFault>
-    ensures { result ≡ word-taken (meaning rule.now) fit.now port bytes.now }
+    ensures { result ≡ word-taken (R.meaning rule.now) fit.now port bytes.now }
 {
     if let Some(fault) = port_fault(rule, port) {
         return Err(fault);

@@ -83,12 +83,12 @@ impl EchoRecord {
         depth: Depth,
         vote: Vote,
     ) -> Option<News>
-        requires crew { (meaning rule.now).crew ≤ max-crew }
-        requires sender { vote.sender < (meaning rule.now).crew }
+        requires crew { (R.meaning rule.now).crew ≤ max-crew }
+        requires sender { vote.sender < (R.meaning rule.now).crew }
         requires kind { (1 ≤ vote.kind) × (vote.kind ≤ max-kind) }
         requires value { (vote.value ≤ characters) × (characters ≤ max-characters) }
-        ensures counts { Counts (setting (meaning rule.now) characters depth) vote self.old self.new result }
-        ensures keeps { Echo-board-keeps (setting (meaning rule.now) characters depth) }
+        ensures counts { Counts (setting (R.meaning rule.now) characters depth) vote self.old self.new result }
+        ensures keeps { Echo-board-keeps (setting (R.meaning rule.now) characters depth) }
     {
         if self.heard.repeats(vote) {
             return None;

@@ -28,7 +28,7 @@ pub(crate) fn find<R: FailureRule>(
     depth: Depth,
 ) -> Findings
     requires { characters ≤ max-characters }
-    ensures { (x : Seen) → heard.now ≡ heard-of (meaning rule.now).crew x → result ≡ findings-of (setting (meaning rule.now) characters depth) x }
+    ensures { (x : Seen) → heard.now ≡ heard-of (R.meaning rule.now).crew x → result ≡ findings-of (setting (R.meaning rule.now) characters depth) x }
 {
     let echoes = heard.echoes(rule, characters);
     let second = heard.second(rule, characters);

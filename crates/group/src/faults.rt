@@ -65,7 +65,7 @@ impl Records {
         terms: &Terms,
         board: u16,
     ) -> Option<GroupFault>
-        ensures value { Stands-against (meaning rule.now) terms.now (starting board) self.now result }
+        ensures value { Stands-against (R.meaning rule.now) terms.now (starting board) self.now result }
     {
         let inside = board < rule.crew() as u16;
         let found = needs(!self.begun(board), GroupFault::Begun, None);
@@ -82,7 +82,7 @@ impl Records {
         kind: u16,
         value: u16,
     ) -> Option<GroupFault>
-        ensures value { Stands-against (meaning rule.now) terms.now (carrying to from kind value) self.now result }
+        ensures value { Stands-against (R.meaning rule.now) terms.now (carrying to from kind value) self.now result }
         ensures within { result ≡ Nothing → (to < 16) × (from < 16) × (kind ≤ 5) × (value ≤ 8) }
     {
         let crew = rule.crew() as u16;
@@ -103,7 +103,7 @@ impl Records {
         to: u16,
         from: u16,
     ) -> Option<GroupFault>
-        ensures value { Stands-against-forging (meaning rule.now) terms.now to from self.now result }
+        ensures value { Stands-against-forging (R.meaning rule.now) terms.now to from self.now result }
         ensures within { result ≡ Nothing → (to < 16) × (from < 256) }
     {
         let crew = rule.crew() as u16;

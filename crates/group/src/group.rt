@@ -21,7 +21,7 @@ impl<R: FailureRule> Group<R> {
     // Starts a board.
     pub fn start(&mut self, board: u16) -> Result<Turn, GroupFault>
         ensures same { (self.new.rule ≡ self.old.rule) × (self.new.terms ≡ self.old.terms) }
-        ensures plays { Plays (meaning self.old.rule) self.old.terms (starting board) self.old.records self.new.records result }
+        ensures plays { Plays (R.meaning self.old.rule) self.old.terms (starting board) self.old.records self.new.records result }
     {
         let mut records = self.records;
         let answer = records.start(&self.rule, &self.terms, board);
@@ -32,7 +32,7 @@ impl<R: FailureRule> Group<R> {
     // Takes a word that `from` has posted to `to`, which counts it.
     pub fn carry(&mut self, to: u16, from: u16, kind: u16, value: u16) -> Result<Turn, GroupFault>
         ensures same { (self.new.rule ≡ self.old.rule) × (self.new.terms ≡ self.old.terms) }
-        ensures plays { Plays (meaning self.old.rule) self.old.terms (carrying to from kind value) self.old.records self.new.records result }
+        ensures plays { Plays (R.meaning self.old.rule) self.old.terms (carrying to from kind value) self.old.records self.new.records result }
     {
         let mut records = self.records;
         let answer = records.carry(&self.rule, &self.terms, to, from, kind, value);
@@ -43,7 +43,7 @@ impl<R: FailureRule> Group<R> {
     // Takes bytes, whatever they are, to `to` on the port of a listed board.
     pub fn forge(&mut self, to: u16, from: u16, bytes: &[u8]) -> Result<Turn, GroupFault>
         ensures same { (self.new.rule ≡ self.old.rule) × (self.new.terms ≡ self.old.terms) }
-        ensures plays { Plays (meaning self.old.rule) self.old.terms (forging to from bytes.now) self.old.records self.new.records result }
+        ensures plays { Plays (R.meaning self.old.rule) self.old.terms (forging to from bytes.now) self.old.records self.new.records result }
     {
         let mut records = self.records;
         let answer = records.forge(&self.rule, &self.terms, to, from, bytes);
@@ -53,7 +53,7 @@ impl<R: FailureRule> Group<R> {
 
     // What a board has decided, if it has.
     pub fn decided(&self, board: u16) -> Option<Decision>
-        ensures { Tells-decided (meaning self.now.rule) self.now.terms self.now.records board result }
+        ensures { Tells-decided (R.meaning self.now.rule) self.now.terms self.now.records board result }
     {
         if board >= 16 {
             return None;

@@ -83,7 +83,7 @@ impl Terms {
 impl<R: FailureRule + Drop> Group<R> {
     // Opens a group, or tells what stands against it.
     pub fn open(rule: R, opening: &Opening) -> Result<Group<R>, GroupFault>
-        ensures { MatchResult result (λ g. (opening-fault (meaning rule) opening.now ≡ None) × (g.rule ≡ rule) × Settles (meaning rule) opening.now g.terms × Reached (meaning rule) g.terms g.records []) (λ e. opening-fault (meaning rule) opening.now ≡ Some e) }
+        ensures { MatchResult result (λ g. (opening-fault (R.meaning rule) opening.now ≡ None) × (g.rule ≡ rule) × Settles (R.meaning rule) opening.now g.terms × Reached (R.meaning rule) g.terms g.records []) (λ e. opening-fault (R.meaning rule) opening.now ≡ Some e) }
     {
         if let Some(fault) = opening_fault(&rule, opening) {
             return Err(fault);

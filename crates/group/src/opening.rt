@@ -64,7 +64,7 @@ fn at_most(crew: u8) -> usize
 
 // What stands against opening a group under the rule, by rising number.
 pub fn opening_fault<R: FailureRule>(rule: &R, opening: &Opening) -> Option<GroupFault>
-    ensures value { result ≡ opening-fault (meaning rule.now) opening.now }
+    ensures value { result ≡ opening-fault (R.meaning rule.now) opening.now }
     ensures sixteen { length opening.now.starts ≡ 16 }
 {
     let crew = rule.crew();

@@ -30,7 +30,7 @@ impl Records {
         word: Word,
     ) -> Result<Turn, GroupFault>
         requires { to < 16 }
-        ensures { Brings (meaning rule.now) terms.now to word self.old self.new result }
+        ensures { Brings (R.meaning rule.now) terms.now to word self.old self.new result }
     {
         let mut frame = [0; FRAME_MAX];
         match write_word(word, &mut frame) {
@@ -66,7 +66,7 @@ impl Records {
         terms: &Terms,
         board: u16,
     ) -> Result<Turn, GroupFault>
-        ensures { Plays (meaning rule.now) terms.now (starting board) self.old self.new result }
+        ensures { Plays (R.meaning rule.now) terms.now (starting board) self.old self.new result }
     {
         match self.start_fault(rule, terms, board) {
             Some(fault) => Err(fault),
@@ -84,7 +84,7 @@ impl Records {
         kind: u16,
         value: u16,
     ) -> Result<Turn, GroupFault>
-        ensures { Plays (meaning rule.now) terms.now (carrying to from kind value) self.old self.new result }
+        ensures { Plays (R.meaning rule.now) terms.now (carrying to from kind value) self.old self.new result }
     {
         match self.carry_fault(rule, terms, to, from, kind, value) {
             Some(fault) => Err(fault),
@@ -110,7 +110,7 @@ impl Records {
         from: u16,
         bytes: &[u8],
     ) -> Result<Turn, GroupFault>
-        ensures { Plays (meaning rule.now) terms.now (forging to from bytes.now) self.old self.new result }
+        ensures { Plays (R.meaning rule.now) terms.now (forging to from bytes.now) self.old self.new result }
     {
         match self.forge_fault(rule, terms, to, from) {
             Some(fault) => Err(fault),

@@ -27,7 +27,7 @@ impl Board {
         port: u8,
         bytes: &[u8],
     ) -> Result<Turn, (u8, BoardFault)>
-        ensures { Board-takes (meaning rule.now) fitting.now.fit port bytes.now self.old self.new result }
+        ensures { Board-takes (R.meaning rule.now) fitting.now.fit port bytes.now self.old self.new result }
     {
         let board = fitting.fit.board;
         match fitting.take(rule, &mut self.state, port, bytes) {
@@ -54,7 +54,7 @@ impl Records {
         bytes: &[u8],
     ) -> Result<Turn, (u8, BoardFault)>
         requires { to < 16 }
-        ensures { Takes (meaning rule.now) terms.now to port bytes.now self.old self.new result }
+        ensures { Takes (R.meaning rule.now) terms.now to port bytes.now self.old self.new result }
     {
         let fitting = terms.fitting(to);
         self.boards[to as usize].take(rule, &fitting, port, bytes)

@@ -12,7 +12,7 @@ impl Heard {
     // Whether two values are approved.
     pub(crate) fn two_approved<R: FailureRule>(&self, rule: &R, characters: u8) -> bool
         requires { characters ≤ max-characters }
-        ensures { Makes (meaning rule.now) characters two-approved self.now result }
+        ensures { Makes (R.meaning rule.now) characters two-approved self.now result }
     {
         match lowest_ample(rule, self.echoes, characters, 0) {
             None => false,
@@ -23,7 +23,7 @@ impl Heard {
     // Whether 0 is approved, or any two values are.
     pub(crate) fn mixed<R: FailureRule>(&self, rule: &R, characters: u8) -> bool
         requires { characters ≤ max-characters }
-        ensures { Makes (meaning rule.now) characters isMixed self.now result }
+        ensures { Makes (R.meaning rule.now) characters isMixed self.now result }
     {
         ample(rule, self.echoes[0]) | self.two_approved(rule, characters)
     }

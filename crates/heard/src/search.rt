@@ -18,7 +18,7 @@ pub(crate) fn lowest_ample<R: FailureRule>(
     from: u8,
 ) -> Option<u8>
     requires { characters ≤ max-characters }
-    ensures { result ≡ seek (suc characters) (ample-from (meaning rule.now) senders from) }
+    ensures { result ≡ seek (suc characters) (ample-from (R.meaning rule.now) senders from) }
 {
     for v in 0..characters + 1 {
         let passes = (from <= v) & ample(rule, senders[v as usize]);
@@ -32,7 +32,7 @@ pub(crate) fn lowest_ample<R: FailureRule>(
 // The values whose senders are strong, as a set.
 pub(crate) fn strong_values<R: FailureRule>(rule: &R, senders: [u16; VALUES], characters: u8) -> u16
     requires { characters ≤ max-characters }
-    ensures { result ≡ values (λ v. nat_le v characters && isStrong (meaning rule.now) (slice_index senders v)) }
+    ensures { result ≡ values (λ v. nat_le v characters && isStrong (R.meaning rule.now) (slice_index senders v)) }
 {
     let mut found: u16 = 0;
     for v in 0..characters + 1 {
@@ -46,7 +46,7 @@ pub(crate) fn strong_values<R: FailureRule>(rule: &R, senders: [u16; VALUES], ch
 // Whether for each value the senders whose opening is another are strong.
 pub(crate) fn parted_among<R: FailureRule>(rule: &R, openings: Tally, characters: u8) -> bool
     requires { characters ≤ max-characters }
-    ensures { result ≡ all-below (suc characters) (λ u. isStrong (meaning rule.now) (othersOf openings u)) }
+    ensures { result ≡ all-below (suc characters) (λ u. isStrong (R.meaning rule.now) (othersOf openings u)) }
 {
     for u in 0..characters + 1 {
         let others = openings.all - (openings.all & openings.values[u as usize]);
@@ -65,7 +65,7 @@ pub(crate) fn lowest_backed<R: FailureRule>(
     characters: u8,
 ) -> Option<u8>
     requires { characters ≤ max-characters }
-    ensures { result ≡ seek (suc characters) (backed-in (meaning rule.now) fourth fifth) }
+    ensures { result ≡ seek (suc characters) (backed-in (R.meaning rule.now) fourth fifth) }
 {
     for w in 0..characters + 1 {
         let passes = (w != 0) & (fifth[w as usize] != 0) & strong(rule, fourth[w as usize]);

@@ -27,7 +27,7 @@ pub fn decision(grade: u8, outcome: Option<u8>) -> Option<Decision>
 impl Heard {
     pub fn verdict<R: FailureRule>(&self, rule: &R, characters: u8) -> Option<Decision>
         requires { characters ≤ max-characters }
-        ensures { Makes (meaning rule.now) characters (λ S. verdictOf S Two) self.now result }
+        ensures { Makes (R.meaning rule.now) characters (λ S. verdictOf S Two) self.now result }
     {
         let fifth = self.first[4];
         let full = decision(2, lowest_ample(rule, fifth.values, characters, 1));

@@ -13,7 +13,7 @@ impl Heard {
     // Whether for every value the senders with another opening are strong.
     fn parted<R: FailureRule>(&self, rule: &R, characters: u8) -> bool
         requires { characters ≤ max-characters }
-        ensures { Makes (meaning rule.now) characters isParted self.now result }
+        ensures { Makes (R.meaning rule.now) characters isParted self.now result }
     {
         parted_among(rule, self.first[0], characters)
     }
@@ -21,7 +21,7 @@ impl Heard {
     // Tests 1 and 2: the values to echo, as a set.
     pub fn echoes<R: FailureRule>(&self, rule: &R, characters: u8) -> u16
         requires { characters ≤ max-characters }
-        ensures { Makes (meaning rule.now) characters (λ S x. values (λ v. nat_le v characters && echoesOf S v x)) self.now result }
+        ensures { Makes (R.meaning rule.now) characters (λ S x. values (λ v. nat_le v characters && echoesOf S v x)) self.now result }
     {
         let strong = strong_values(rule, self.echoes, characters);
         strong | self.parted(rule, characters) as u16
@@ -30,7 +30,7 @@ impl Heard {
     // Test 3: the value of kind 2.
     pub fn second<R: FailureRule>(&self, rule: &R, characters: u8) -> Option<u8>
         requires { characters ≤ max-characters }
-        ensures { Makes (meaning rule.now) characters second_of self.now result }
+        ensures { Makes (R.meaning rule.now) characters second_of self.now result }
     {
         lowest_ample(rule, self.echoes, characters, 0)
     }
@@ -38,7 +38,7 @@ impl Heard {
     // Test 4: the value of kind 3.
     pub fn third<R: FailureRule>(&self, rule: &R, characters: u8) -> Option<u8>
         requires { characters ≤ max-characters }
-        ensures { Makes (meaning rule.now) characters thirdOf self.now result }
+        ensures { Makes (R.meaning rule.now) characters thirdOf self.now result }
     {
         let shared = lowest_ample(rule, self.first[1].values, characters, 0);
         shared.or(self.two_approved(rule, characters).then_some(0))
@@ -47,7 +47,7 @@ impl Heard {
     // Test 5: the outcome, which depth 1 decides and kind 4 bears at depth 2.
     pub fn outcome<R: FailureRule>(&self, rule: &R, characters: u8) -> Option<u8>
         requires { characters ≤ max-characters }
-        ensures { Makes (meaning rule.now) characters outcomeOf self.now result }
+        ensures { Makes (R.meaning rule.now) characters outcomeOf self.now result }
     {
         let nothing = self.mixed(rule, characters) & ample(rule, self.first[2].all);
         let value = lowest_ample(rule, self.first[2].values, characters, 0);
@@ -57,7 +57,7 @@ impl Heard {
     // Test 6: the value of kind 5.
     pub fn fifth<R: FailureRule>(&self, rule: &R, characters: u8) -> Option<u8>
         requires { characters ≤ max-characters }
-        ensures { Makes (meaning rule.now) characters fifthOf self.now result }
+        ensures { Makes (R.meaning rule.now) characters fifthOf self.now result }
     {
         let nothing = self.mixed(rule, characters) & ample(rule, self.first[3].all);
         let value = lowest_ample(rule, self.first[3].values, characters, 0);

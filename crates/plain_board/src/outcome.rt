@@ -45,7 +45,7 @@ pub(crate) fn stage_on<R: FailureRule>(
     second: &Tally,
 ) -> Stage
     requires { characters ≤ max-value }
-    ensures { Stage-on (setting (meaning rule.now) characters depth) branch second.now result }
+    ensures { Stage-on (setting (R.meaning rule.now) characters depth) branch second.now result }
 {
     match depth {
         Depth::One => Stage::Decided(branch, graded(1, branch)),

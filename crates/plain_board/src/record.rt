@@ -94,11 +94,11 @@ impl PlainRecord {
         depth: Depth,
         vote: Vote,
     ) -> Option<News>
-        requires sender_lt_max_crew { (vote.sender < max-crew) × (vote.sender < (meaning rule.now).crew) }
+        requires sender_lt_max_crew { (vote.sender < max-crew) × (vote.sender < (R.meaning rule.now).crew) }
         requires le_kind { (1 ≤ vote.kind) × (vote.kind ≤ 2) }
         requires value_le_max_value { (vote.value ≤ max-value) × (characters ≤ max-value) }
-        ensures shows { Counts (setting (meaning rule.now) characters depth) vote self.old self.new result }
-        ensures marks { Plain-marks (setting (meaning rule.now) characters depth) }
+        ensures shows { Counts (setting (R.meaning rule.now) characters depth) vote self.old self.new result }
+        ensures marks { Plain-marks (setting (R.meaning rule.now) characters depth) }
     {
         if self.repeats(vote) {
             return None;

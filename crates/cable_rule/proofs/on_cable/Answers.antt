@@ -6,8 +6,8 @@ use Rattle.quorum.specs.Truth.{false-unless}
 use Rattle.quorum.specs.Members.{member_is, member-lt}
 use Rattle.cable_rule.proofs.on_cable.Goals as goal
 
-pub returns-then-board-ge-SET-BITS : goal.returns-then-board-ge-SET-BITS
-returns-then-board-ge-SET-BITS c =
+pub returns-then-board-ge-SET_BITS : goal.returns-then-board-ge-SET_BITS
+returns-then-board-ge-SET_BITS c =
     let small : c.args.cable < 2 ^ 16 = omega arith in
     sym (false-unless _ (λ m. let k = member-lt 16 c.args.cable c.args.board small m in omega arith))
 

@@ -7,8 +7,8 @@ use Rattle.vote.proofs.Seeking.{seek-none, seek-more, seek_hit, seek-over}
 use Rattle.heard.specs.Masks.{others}
 use Rattle.heard.proofs.search.parted_among.Goals as goal
 
-pub overflow-sub-others : goal.overflow-sub-others
-overflow-sub-others g c = and_le_l _ _
+pub overflow_sub-others : goal.overflow_sub-others
+overflow_sub-others g c = and_le_l _ _
 
 pub loop-u-init : goal.loop-u-init
 loop-u-init g c = seek-none _

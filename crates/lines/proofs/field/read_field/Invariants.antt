@@ -5,4 +5,4 @@ use Rattle.lines.proofs.Scan.{field-on}
 use Rattle.lines.proofs.field.read_field.Given as goal
 
 abbrev pub invariant-loop-i : goal.invariant-loop-i
-invariant-loop-i l = field-on l.so-far (drop l.i l.bytes) ≡ field_in l.bytes
+invariant-loop-i l = field-on l.so_far (drop l.i l.bytes) ≡ field_in l.bytes

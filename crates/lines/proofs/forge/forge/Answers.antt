@@ -3,15 +3,15 @@ use Rattle.std.proofs.Common.{arith, length-drop, length-take}
 use Rattle.lines.proofs.Forging.{no-to, no-from, both}
 use Rattle.lines.proofs.forge.forge.Goals as goal
 
-pub returns-in-default : goal.returns-in-default
-returns-in-default c = record { call = no-to c.args.line.now c.in-default.ensures.value; within = tt }
+pub returns-in_default : goal.returns-in_default
+returns-in_default c = record { call = no-to c.args.line.now c.in_default.ensures.value; within = tt }
 
-pub returns-in-default-read-field : goal.returns-in-default-read-field
-returns-in-default-read-field c =
-    record { call = no-from c.args.line.now c.in-Some.to c.in-Some.ensures.value c.in-default-read-field.ensures.value; within = tt }
+pub returns-in_default-read_field : goal.returns-in_default-read_field
+returns-in_default-read_field c =
+    record { call = no-from c.args.line.now c.in-Some.to c.in-Some.ensures.value c.in_default-read_field.ensures.value; within = tt }
 
 pub returns : goal.returns
 returns c = record {
-  call = both c.args.line.now c.in-Some.to c.in-Some.ensures.value c.in-Some-read-field.from c.in-Some-read-field.ensures.value;
-  within = omega (arith, simp (length-take, length-drop) at c.in-Some.ensures.within, simp (length-take, length-drop) at c.in-Some-read-field.ensures.within);
+  call = both c.args.line.now c.in-Some.to c.in-Some.ensures.value c.in-Some-read_field.from c.in-Some-read_field.ensures.value;
+  within = omega (arith, simp (length-take, length-drop) at c.in-Some.ensures.within, simp (length-take, length-drop) at c.in-Some-read_field.ensures.within);
 }

@@ -4,11 +4,11 @@ use Rattle.lines.specs.Items.{items}
 use Rattle.lines.proofs.Calling.{headed}
 use Rattle.lines.proofs.head.read_head.Goals as goal
 
-pub returns-in-None-read-numbers : goal.returns-in-None-read-numbers
-returns-in-None-read-numbers c = λ call.
-    headed c.args.bytes.now call c.if-not-lettered.ensures c.in-Some.method c.in-Some.ensures None c.in-None-read-numbers.ensures
+pub returns-in-None-read_numbers : goal.returns-in-None-read_numbers
+returns-in-None-read_numbers c = λ call.
+    headed c.args.bytes.now call c.if-not-lettered.ensures c.in-Some.method c.in-Some.ensures None c.in-None-read_numbers.ensures
 
-pub returns-in-Some-read-numbers : goal.returns-in-Some-read-numbers
-returns-in-Some-read-numbers c = λ call.
-    headed c.args.bytes.now call c.if-not-lettered.ensures c.in-Some.method c.in-Some.ensures (Some (items c.in-Some-read-numbers.numbers))
-    c.in-Some-read-numbers.ensures
+pub returns-in-Some-read_numbers : goal.returns-in-Some-read_numbers
+returns-in-Some-read_numbers c = λ call.
+    headed c.args.bytes.now call c.if-not-lettered.ensures c.in-Some.method c.in-Some.ensures (Some (items c.in-Some-read_numbers.numbers))
+    c.in-Some-read_numbers.ensures

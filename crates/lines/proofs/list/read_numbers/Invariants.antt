@@ -6,4 +6,4 @@ use Rattle.lines.specs.Items.{items}
 use Rattle.lines.proofs.list.read_numbers.Given as goal
 
 abbrev pub invariant-loop-byte : goal.invariant-loop-byte
-invariant-loop-byte l = (numbers_on (items l.done) l.so-far (drop l.byte-index l.bytes) ≡ numbers-in l.bytes) × (2 * l.done.many + begun l.so-far ≤ l.byte-index)
+invariant-loop-byte l = (numbers_on (items l.done) l.so_far (drop l.byte-index l.bytes) ≡ numbers-in l.bytes) × (2 * l.done.many + begun l.so_far ≤ l.byte-index)

@@ -8,8 +8,8 @@ use Rattle.lines.proofs.numeric.carry.Goals as goal
 abbrev carried : List ℕ → Call
 carried vs = carries (get_or vs 0 0) (get_or vs 1 0) (get_or vs 2 0) (get_or vs 3 0)
 
-pub returns-in-default : goal.returns-in-default
-returns-in-default c = record { call = λ line. none_read c.args.body.now 4 carried c.in-default.ensures; within = λ line. tt }
+pub returns-in_default : goal.returns-in_default
+returns-in_default c = record { call = λ line. none_read c.args.body.now 4 carried c.in_default.ensures; within = λ line. tt }
 
 pub returns-then-len-ne4 : goal.returns-then-len-ne4
 returns-then-len-ne4 c = record {

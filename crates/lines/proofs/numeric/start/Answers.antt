@@ -5,8 +5,8 @@ use Rattle.lines.specs.Items.{items}
 use Rattle.lines.proofs.Calling.{none_read, too-many-read, just-read}
 use Rattle.lines.proofs.numeric.start.Goals as goal
 
-pub returns-in-default : goal.returns-in-default
-returns-in-default c = record { call = λ line. none_read c.args.body.now 1 (λ vs. starts-board (get_or vs 0 0)) c.in-default.ensures; within = λ line. tt }
+pub returns-in_default : goal.returns-in_default
+returns-in_default c = record { call = λ line. none_read c.args.body.now 1 (λ vs. starts-board (get_or vs 0 0)) c.in_default.ensures; within = λ line. tt }
 
 pub returns-then-len-ne1 : goal.returns-then-len-ne1
 returns-then-len-ne1 c = record {

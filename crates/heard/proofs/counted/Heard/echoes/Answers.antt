@@ -9,5 +9,5 @@ use Rattle.heard.proofs.counted.Heard.echoes.Goals as goal
 pub returns : goal.returns
 unfolding echoes
 returns g c = λ d x e.
-    ap₂ (λ a b. bit_or a (bool_byte b)) c.strong-values-strong.ensures (c.parted.ensures d x e)
+    ap₂ (λ a b. bit_or a (bool_byte b)) c.strong_values-strong.ensures (c.parted.ensures d x e)
     ∙ echoes-is (g.R.FailureRule.meaning c.args.rule.now) c.args.characters c.requires c.args.self.now x e _

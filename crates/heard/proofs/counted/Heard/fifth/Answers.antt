@@ -5,4 +5,4 @@ use Rattle.heard.proofs.counted.Heard.fifth.Goals as goal
 pub returns : goal.returns
 returns g c = λ d x e.
     fifth-made (g.R.FailureRule.meaning c.args.rule.now) c.args.characters c.requires c.args.self.now d x e
-    c.or.ensures c.then-some.ensures (c.mixed.ensures d x e) c.ample.ensures.value c.lowest-ample-value.ensures
+    c.or.ensures c.then_some.ensures (c.mixed.ensures d x e) c.ample.ensures.value c.lowest_ample-value.ensures

@@ -4,4 +4,4 @@ use Rattle.heard.proofs.counted.Heard.mixed.Goals as goal
 
 pub returns : goal.returns
 returns g c = λ d x e.
-    mixed-made (g.R.FailureRule.meaning c.args.rule.now) c.args.characters c.requires c.args.self.now d x e c.ample.ensures.value (c.two-approved.ensures d x e)
+    mixed-made (g.R.FailureRule.meaning c.args.rule.now) c.args.characters c.requires c.args.self.now d x e c.ample.ensures.value (c.two_approved.ensures d x e)

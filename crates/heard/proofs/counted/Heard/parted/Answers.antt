@@ -6,4 +6,4 @@ use Rattle.heard.proofs.counted.Heard.parted.Goals as goal
 
 pub returns : goal.returns
 unfolding parted
-returns g c = λ d x e. c.parted-among.ensures ∙ parted-is (g.R.FailureRule.meaning c.args.rule.now) c.args.characters c.requires c.args.self.now x e
+returns g c = λ d x e. c.parted_among.ensures ∙ parted-is (g.R.FailureRule.meaning c.args.rule.now) c.args.characters c.requires c.args.self.now x e

@@ -3,4 +3,4 @@ use Rattle.heard.proofs.Tested.{second-made}
 use Rattle.heard.proofs.counted.Heard.second.Goals as goal
 
 pub returns : goal.returns
-returns g c = λ d x e. second-made (g.R.FailureRule.meaning c.args.rule.now) c.args.characters c.requires c.args.self.now d x e c.lowest-ample.ensures
+returns g c = λ d x e. second-made (g.R.FailureRule.meaning c.args.rule.now) c.args.characters c.requires c.args.self.now d x e c.lowest_ample.ensures

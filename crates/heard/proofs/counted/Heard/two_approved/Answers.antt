@@ -4,14 +4,14 @@ use Rattle.vote.proofs.Seeking.{seek_found}
 use Rattle.heard.proofs.Tested.{two-made-none, two-made-some}
 use Rattle.heard.proofs.counted.Heard.two_approved.Goals as goal
 
-pub overflow-add-u : goal.overflow-add-u
-overflow-add-u g c = let k : c.in-Some.u < suc c.args.characters = (seek_found (suc c.args.characters) _ c.in-Some.u (sym c.lowest-ample.ensures ∙ c.in-Some.is)).0 in omega arith
+pub overflow_add-u : goal.overflow_add-u
+overflow_add-u g c = let k : c.in-Some.u < suc c.args.characters = (seek_found (suc c.args.characters) _ c.in-Some.u (sym c.lowest_ample.ensures ∙ c.in-Some.is)).0 in omega arith
 
 pub returns-in-None : goal.returns-in-None
 returns-in-None g c = λ d x e.
-    two-made-none (g.R.FailureRule.meaning c.args.rule.now) c.args.characters c.requires c.args.self.now d x e c.lowest-ample.ensures c.in-None.is
+    two-made-none (g.R.FailureRule.meaning c.args.rule.now) c.args.characters c.requires c.args.self.now d x e c.lowest_ample.ensures c.in-None.is
 
 pub returns-in-Some : goal.returns-in-Some
 returns-in-Some g c = λ d x e.
-    two-made-some (g.R.FailureRule.meaning c.args.rule.now) c.args.characters c.requires c.args.self.now d x e c.in-Some.u c.lowest-ample.ensures c.in-Some.is
-    c.lowest-ample-in-Some.ensures c.is-some.ensures
+    two-made-some (g.R.FailureRule.meaning c.args.rule.now) c.args.characters c.requires c.args.self.now d x e c.in-Some.u c.lowest_ample.ensures c.in-Some.is
+    c.lowest_ample-in-Some.ensures c.is_some.ensures

@@ -26,9 +26,9 @@ returns-then-ample g c = record {
       let S = setting R c.args.characters c.args.depth in
       let few : c.common-branch.result ≤ 8 = omega (arith, c.common-branch.ensures.low) in
       let fresh = sym (c.repeats.ensures S h (omega arith) e) ∙ c.if-repeats.false in
-      first-fixes S c.args.vote h c.args.self.now e (omega arith) fresh c.in-Gathering-eq1.is-0 c.on-branch.result
+      first-fixes S c.args.vote h c.args.self.now e (omega arith) fresh c.in-Gathering-eq1.is-0 c.on_branch.result
       c.in-Gathering-eq1.is-1 c.add.new.self c.add.ensures (ample-too R true c.all.result c.add.new.self.all c.if-ample.ensures.value c.all.ensures)
-      c.common-branch.result few c.common-branch.ensures.value c.stage-on-self.result c.stage-on-self.ensures c.on-branch.ensures;
+      c.common-branch.result few c.common-branch.ensures.value c.stage_on-self.result c.stage_on-self.ensures c.on_branch.ensures;
   marks = marks-hold (setting (g.R.FailureRule.meaning c.args.rule.now) c.args.characters c.args.depth);
 }
 
@@ -55,7 +55,7 @@ returns g c = record {
         | in-Comparing-default w ↦
             as-made S c.args.vote h _ _ _ w.self-is
             (second-compares S c.args.vote h c.args.self.now e (omega arith) fresh w.in-Comparing-default.branch w.in-Comparing-default.is-0 c.none.result c.none.ensures
-            (omega arith) (omega arith) w.add-in-Comparing-default.new.self w.add-in-Comparing-default.ensures w.stage-on-self-in-Comparing-default.result w.stage-on-self-in-Comparing-default.ensures)
+            (omega arith) (omega arith) w.add-in-Comparing-default.new.self w.add-in-Comparing-default.ensures w.stage_on-self-in-Comparing-default.result w.stage_on-self-in-Comparing-default.ensures)
         | in-Decided-eq1 w ↦
             as-made S c.args.vote h _ _ _ w.self-is
             (first-after S c.args.vote h c.args.self.now e (omega arith) fresh _ _ w.in-Decided-eq1.is-0 c.none.result c.none.ensures

@@ -8,20 +8,20 @@ use Rattle.plain_board.proofs.tally.Tally.common.Goals as goal
 pub loop-v-init : goal.loop-v-init
 loop-v-init c = walk-starts (agreed c.args.self.now)
 
-pub returns-then-agrees-on : goal.returns-then-agrees-on
-returns-then-agrees-on c =
+pub returns-then-agrees_on : goal.returns-then-agrees_on
+returns-then-agrees_on c =
     let low : c.loop-v.v ≤ 8 = omega arith in
     record {
       low = omega arith;
       value = λ S x k f e.
           common-is S x k c.args.self.now e c.args.characters f (omega arith) (Some c.loop-v.v)
-          (walk-hits (agreed c.args.self.now) c.args.characters c.loop-v.v c.loop-v.invariant (sym (c.agrees-on.ensures low) ∙ c.if-agrees-on.true) (omega arith) (omega arith));
+          (walk-hits (agreed c.args.self.now) c.args.characters c.loop-v.v c.loop-v.invariant (sym (c.agrees_on.ensures low) ∙ c.if-agrees_on.true) (omega arith) (omega arith));
     }
 
 pub loop-v-preserved : goal.loop-v-preserved
 loop-v-preserved c =
     let low : c.loop-v.v ≤ 8 = omega arith in
-    walk-on (agreed c.args.self.now) c.loop-v.v c.loop-v.invariant (sym (c.agrees-on.ensures low) ∙ c.if-agrees-on.false)
+    walk-on (agreed c.args.self.now) c.loop-v.v c.loop-v.invariant (sym (c.agrees_on.ensures low) ∙ c.if-agrees_on.false)
 
 pub returns : goal.returns
 returns c = record {
