@@ -6,13 +6,13 @@ pub returns-in-Some : goal.returns-in-Some
 unfolding word-taken
 returns-in-Some g c = search rules
 
-pub returns-in-err-word : goal.returns-in-err-word
+pub returns-in_err-word : goal.returns-in_err-word
 unfolding word-taken
-returns-in-err-word g c = search rules
+returns-in_err-word g c = search rules
 
-pub returns-in-Some-word-fault : goal.returns-in-Some-word-fault
+pub returns-in-Some-word_fault : goal.returns-in-Some-word_fault
 unfolding word-taken
-returns-in-Some-word-fault g c = search rules
+returns-in-Some-word_fault g c = search rules
 
 pub returns : goal.returns
 unfolding word-taken

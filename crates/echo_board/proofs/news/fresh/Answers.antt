@@ -4,7 +4,7 @@ use Rattle.echo_board.proofs.Starts.{fresh-none, fresh-some}
 use Rattle.echo_board.proofs.news.fresh.Goals as goal
 
 pub returns-in-None : goal.returns-in-None
-returns-in-None c = c.value-set.ensures ∙ fresh-none c.args.before c.args.found c.in-None.is
+returns-in-None c = c.value_set.ensures ∙ fresh-none c.args.before c.args.found c.in-None.is
 
 pub returns-in-Some : goal.returns-in-Some
 returns-in-Some c = fresh-some c.args.before c.args.found _ c.in-Some.is

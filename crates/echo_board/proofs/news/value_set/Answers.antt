@@ -6,8 +6,8 @@ use Rattle.echo_board.proofs.news.value_set.Goals as goal
 pub returns-in-None : goal.returns-in-None
 returns-in-None c = none-held c.args.word c.in-None.is
 
-pub returns-then-value-gt-MAX-CHARACTERS : goal.returns-then-value-gt-MAX-CHARACTERS
-returns-then-value-gt-MAX-CHARACTERS c = high_held c.args.word c.in-Some.value c.in-Some.is (omega arith)
+pub returns-then-value-gt-MAX_CHARACTERS : goal.returns-then-value-gt-MAX_CHARACTERS
+returns-then-value-gt-MAX_CHARACTERS c = high_held c.args.word c.in-Some.value c.in-Some.is (omega arith)
 
-pub returns-else-value-gt-MAX-CHARACTERS : goal.returns-else-value-gt-MAX-CHARACTERS
-returns-else-value-gt-MAX-CHARACTERS c = value-held c.args.word c.in-Some.value c.in-Some.is (omega arith)
+pub returns-else-value-gt-MAX_CHARACTERS : goal.returns-else-value-gt-MAX_CHARACTERS
+returns-else-value-gt-MAX_CHARACTERS c = value-held c.args.word c.in-Some.value c.in-Some.is (omega arith)

@@ -1,5 +1,5 @@
 use Rattle.board.proofs.Slips.{start-below}
 use Rattle.board.proofs.fit.Fitting.record.Goals as goal
 
-pub first-record-requires : goal.first-record-requires
-first-record-requires c = start-below c.args.self.now.fit c.args.self.now.sound
+pub first_record-requires : goal.first_record-requires
+first_record-requires c = start-below c.args.self.now.fit c.args.self.now.sound

@@ -8,6 +8,6 @@ pub step-counted-requires : goal.step-counted-requires
 step-counted-requires g c =
     let R = g.R.FailureRule.meaning c.args.rule.now in
     let f = c.args.self.now.fit in
-    let taken : word-taken R f c.args.port c.args.bytes.now ≡ Ok c.in-ok-word.word = sym c.in-ok-word.ensures in
-    let w = good-word R f c.args.port c.args.bytes.now c.in-ok-word.word taken in
+    let taken : word-taken R f c.args.port c.args.bytes.now ≡ Ok c.in_ok-word.word = sym c.in_ok-word.ensures in
+    let w = good-word R f c.args.port c.args.bytes.now c.in_ok-word.word taken in
     record { rule = (w.crew-high, w.cover-low); fit = characters-low f c.args.self.now.sound; vote = (w.sender-low, (w.kind-low, (w.kind-high, w.value-high))) }

@@ -3,4 +3,4 @@ use Rattle.board.proofs.Good.{good-settings}
 use Rattle.board.proofs.fitted.Fitted.fit.Goals as goal
 
 pub kept-fitting-requires : goal.kept-fitting-requires
-kept-fitting-requires g c = good-settings (g.R.FailureRule.meaning c.args.rule) c.args.settings (sym c.settings-fault.ensures ∙ c.in-default.is)
+kept-fitting-requires g c = good-settings (g.R.FailureRule.meaning c.args.rule) c.args.settings (sym c.settings_fault.ensures ∙ c.in_default.is)

@@ -16,7 +16,7 @@ returns g c =
     record {
       same = (refl, refl);
       state = c.record-state.ensures R;
-      slip = c.first-slip-slip.ensures.value R;
+      slip = c.first_slip-slip.ensures.value R;
       keeps = (method-facts f.method (setting-of R f) f.start law, six-words R f law (characters-low f c.args.self.fitting.sound));
-      the-marked-cases-hold = marked-cases-hold;
+      the_marked_cases_hold = marked-cases-hold;
     }

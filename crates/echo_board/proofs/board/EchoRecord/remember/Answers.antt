@@ -2,5 +2,5 @@
 use lib.Bits.{and_le_l}
 use Rattle.echo_board.proofs.board.EchoRecord.remember.Goals as goal
 
-pub overflow-sub-echoes : goal.overflow-sub-echoes
-overflow-sub-echoes c = and_le_l _ _
+pub overflow_sub-echoes : goal.overflow_sub-echoes
+overflow_sub-echoes c = and_le_l _ _

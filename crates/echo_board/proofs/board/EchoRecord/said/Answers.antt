@@ -16,5 +16,5 @@ returns-in-4 c = λ S s h e ne. fourth-is S s h c.args.self.now e ∙ ap (said S
 pub returns-in-5 : goal.returns-in-5
 returns-in-5 c = λ S s h e ne. fifth-is S s h c.args.self.now e ∙ ap (said S h) (sym c.in-5.is)
 
-pub returns-in-default : goal.returns-in-default
-returns-in-default c = λ S s h e ne. said-none S h c.args.kind (λ q. omega arith) (λ q. omega arith) (λ q. omega arith) (λ q. omega arith)
+pub returns-in_default : goal.returns-in_default
+returns-in_default c = λ S s h e ne. said-none S h c.args.kind (λ q. omega arith) (λ q. omega arith) (λ q. omega arith) (λ q. omega arith)
