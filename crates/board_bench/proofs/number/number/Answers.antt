@@ -3,8 +3,8 @@ use Rattle.std.proofs.Common.{sym, arith}
 use Rattle.board_bench.proofs.Reading.{number_more, number-stop, number-end}
 use Rattle.board_bench.proofs.number.number.Goals as goal
 
-pub returns-in-default : goal.returns-in-default
-returns-in-default c = number-stop c.args.line.now c.loop-byte.byte-index c.loop-byte.read _ c.loop-byte.invariant (omega arith) (sym c.in-default.ensures)
+pub returns-in_default : goal.returns-in_default
+returns-in_default c = number-stop c.args.line.now c.loop-byte.byte-index c.loop-byte.read _ c.loop-byte.invariant (omega arith) (sym c.in_default.ensures)
 
 pub loop-byte-preserved : goal.loop-byte-preserved
 loop-byte-preserved c = number_more c.args.line.now c.loop-byte.byte-index c.loop-byte.read _ c.loop-byte.invariant (omega arith) c.in-Some.value (sym c.in-Some.ensures)

@@ -4,4 +4,4 @@ use Rattle.board_bench.specs.Lines.{numbers_on, numbers-in}
 use Rattle.board_bench.proofs.number.numbers.Given as goal
 
 abbrev pub invariant-loop-byte : goal.invariant-loop-byte
-invariant-loop-byte l = numbers_on (vec_items l.done) l.so-far (drop l.byte-index l.line) ≡ numbers-in l.line
+invariant-loop-byte l = numbers_on (vec_items l.done) l.so_far (drop l.byte-index l.line) ≡ numbers-in l.line

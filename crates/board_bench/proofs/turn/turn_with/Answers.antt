@@ -8,15 +8,15 @@ use Rattle.board_bench.proofs.turn.turn_with.Goals as goal
 pub returns-in-Err : goal.returns-in-Err
 returns-in-Err c = record {
   same = c.take.ensures.same;
-  turned = turned-refused _ _ _ _ _ _ _ c.args.line.now c.in-Some.said (sym c.read-said.ensures.value ∙ c.in-Some.is) _ (take_rest c.args.line.now c.in-Some.said.begins) c.in-Err.fault
-      c.in-Err.ensures.refused.0 (c.refused-for.ensures ∙ ap refused c.refusal.ensures) c.in-Err.ensures.refused.1 refl;
+  turned = turned-refused _ _ _ _ _ _ _ c.args.line.now c.in-Some.said (sym c.read_said.ensures.value ∙ c.in-Some.is) _ (take_rest c.args.line.now c.in-Some.said.begins) c.in-Err.fault
+      c.in-Err.ensures.refused.0 (c.refused_for.ensures ∙ ap refused c.refusal.ensures) c.in-Err.ensures.refused.1 refl;
   within = omega arith;
 }
 
 pub returns-in-Ok : goal.returns-in-Ok
 returns-in-Ok c = record {
   same = c.take.ensures.same;
-  turned = turned_taken _ _ _ _ _ _ _ c.args.line.now c.in-Some.said (sym c.read-said.ensures.value ∙ c.in-Some.is) _ (take_rest c.args.line.now c.in-Some.said.begins) _ _
-      c.in-Ok.ensures.accepted (c.taken-with-answer.ensures ∙ ap (taken c.in-Ok.told.0) c.count.ensures) c.written-end.ensures.value c.written-end.ensures.buffer;
+  turned = turned_taken _ _ _ _ _ _ _ c.args.line.now c.in-Some.said (sym c.read_said.ensures.value ∙ c.in-Some.is) _ (take_rest c.args.line.now c.in-Some.said.begins) _ _
+      c.in-Ok.ensures.accepted (c.taken_with-answer.ensures ∙ ap (taken c.in-Ok.told.0) c.count.ensures) c.written-end.ensures.value c.written-end.ensures.buffer;
   within = c.written-end.ensures.within;
 }

@@ -3,4 +3,4 @@ use Rattle.group.specs.Opening.{kept-start}
 use Rattle.group.proofs.opened.own_starts.Given as goal
 
 abbrev pub invariant-loop-i : goal.invariant-loop-i
-invariant-loop-i l = (length l.own_val ≡ 16) × ((j : ℕ) → j < l.i → get_or l.own_val j 0 ≡ kept-start l.crew l.starts j)
+invariant-loop-i l = (length l.own ≡ 16) × ((j : ℕ) → j < l.i → get_or l.own j 0 ≡ kept-start l.crew l.starts j)

@@ -2,8 +2,8 @@ use Rattle.std.proofs.Common.{◌≡◌, ℕ, ◌<◌, sym, refl, ap, subst, rul
 use Rattle.group.proofs.Accepted.{terms-sound, starts-settled}
 use Rattle.group.proofs.opened.settled.Goals as goal
 
-pub invariant-of-result : goal.invariant-of-result
-invariant-of-result c = (terms-sound c.args.crew c.args.opening.now c.requires c.own-starts.result c.own-starts.ensures, tt)
+pub invariant_of-result : goal.invariant_of-result
+invariant_of-result c = record { sound = terms-sound c.args.crew c.args.opening.now c.requires c.own_starts.result c.own_starts.ensures }
 
 pub returns : goal.returns
 returns c R e = record {
@@ -13,5 +13,5 @@ returns c R e = record {
   group = refl;
   change = refl;
   listed = refl;
-  starts = λ i l. starts-settled c.args.crew c.args.opening.now c.requires c.own-starts.result c.own-starts.ensures i (subst (λ (n : ℕ). i < n) e l);
+  starts = λ i l. starts-settled c.args.crew c.args.opening.now c.requires c.own_starts.result c.own_starts.ensures i (subst (λ (n : ℕ). i < n) e l);
 }

@@ -15,11 +15,11 @@ unfolding opening-fault
 returns g c =
     let R = g.R.FailureRule.meaning c.args.rule.now in
     let o = c.args.opening.now in
-    let chained : c.needs.result ≡ cond (is_within 1 16 R.crew) (behind-crew R o c.all-characters-starts.result) (Some (Against Crew)) = cc in
-    let many : c.at-most-n.result ≡ cond (is_within 1 16 R.crew) R.crew 16 = cc in
+    let chained : c.needs.result ≡ cond (is_within 1 16 R.crew) (behind-crew R o c.all_characters-starts.result) (Some (Against Crew)) = cc in
+    let many : c.at_most-n.result ≡ cond (is_within 1 16 R.crew) R.crew 16 = cc in
     record {
       value = chained
-          ∙ starts-asked (is_within 1 16 R.crew) c.at-most-n.result R.crew o.characters o.starts c.all-characters-starts.result (behind-crew R o) (Some (Against Crew)) many
-          c.all-characters-starts.ensures;
+          ∙ starts-asked (is_within 1 16 R.crew) c.at_most-n.result R.crew o.characters o.starts c.all_characters-starts.result (behind-crew R o) (Some (Against Crew)) many
+          c.all_characters-starts.ensures;
       sixteen = search rules;
     }

@@ -7,12 +7,12 @@ pub settled-terms-requires : goal.settled-terms-requires
 settled-terms-requires g c =
     let R = g.R.FailureRule.meaning c.args.rule in
     let o = c.args.opening.now in
-    subst (λ (n : ℕ). Good-opening n o) (sym c.crew.ensures) ((accepted-parts R o (sym c.opening-fault.ensures.value ∙ c.in-default.is)).numbers c.opening-fault.ensures.sixteen)
+    subst (λ (n : ℕ). Good-opening n o) (sym c.crew.ensures) ((accepted-parts R o (sym c.opening_fault.ensures.value ∙ c.in_default.is)).numbers c.opening_fault.ensures.sixteen)
 
 pub returns : goal.returns
 returns g c =
     let R = g.R.FailureRule.meaning c.args.rule in
     let o = c.args.opening.now in
-    let none = sym c.opening-fault.ensures.value ∙ c.in-default.is in
+    let none = sym c.opening_fault.ensures.value ∙ c.in_default.is in
     let settles = c.settled-terms.ensures R (sym c.crew.ensures) in
     (none, refl, settles, record { opened = opened R o none c.settled-terms.result settles; shown = c.records-records.ensures R })

@@ -4,14 +4,14 @@ use Rattle.group.proofs.Standing.{posted-is, kind-unposted, value-unposted}
 use Rattle.group.proofs.Posted.{posted-told}
 use Rattle.group.proofs.records.Records.posted.Goals as goal
 
-pub returns-then-kind-gt-MAX-KIND : goal.returns-then-kind-gt-MAX-KIND
-returns-then-kind-gt-MAX-KIND c = record {
+pub returns-then-kind-gt-MAX_KIND : goal.returns-then-kind-gt-MAX_KIND
+returns-then-kind-gt-MAX_KIND c = record {
   value = λ R xs law reached l on. kind-unposted law reached.opened xs c.args.board c.args.kind c.args.value l (omega arith);
   within = λ t. absurd (false≢true t);
 }
 
-pub returns-then-value-gt-MAX-VALUE : goal.returns-then-value-gt-MAX-VALUE
-returns-then-value-gt-MAX-VALUE c = record {
+pub returns-then-value-gt-MAX_VALUE : goal.returns-then-value-gt-MAX_VALUE
+returns-then-value-gt-MAX_VALUE c = record {
   value = λ R xs law reached l on. value-unposted law reached.opened xs c.args.board c.args.kind c.args.value l (omega arith);
   within = λ t. absurd (false≢true t);
 }
@@ -19,7 +19,7 @@ returns-then-value-gt-MAX-VALUE c = record {
 pub returns : goal.returns
 returns c = record {
   value = λ R xs law reached l on.
-      posted-told law reached.opened xs c.args.self.now reached.shown c.args.board c.args.kind c.args.value _ c.fitting-fitting.result.fit c.has-posted.result
-      (omega arith) on c.fitting-fitting.ensures c.has-posted.ensures;
+      posted-told law reached.opened xs c.args.self.now reached.shown c.args.board c.args.kind c.args.value _ c.fitting-fitting.result.fit c.has_posted.result
+      (omega arith) on c.fitting-fitting.ensures c.has_posted.ensures;
   within = λ t. (omega arith, omega arith);
 }
