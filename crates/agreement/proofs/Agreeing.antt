@@ -1,5 +1,4 @@
 -- The theorems over all methods, from the proofs of each. Assumes nothing.
-use Rattle.std.proofs.Common.{◌≤◌}
 use Rattle.vote.specs.declared.Method.{Method}
 use Rattle.vote.specs.declared.Method.TheVariants.{Plain, Echo}
 use Rattle.vote.specs.Setting.{Setting}

@@ -1,13 +1,13 @@
 -- Every run of a method with bounded words can go on until all that the steady boards have posted is counted. Assumes nothing.
 use Rattle.std.proofs.Common.{◌≡◌, ℕ, zero, suc, ◌<◌, ◌≤◌, Bool, true, false, cond, not, ◌&&◌, ◌||◌, eqb, ltb, ◌⊎◌, List, [], ◌∷◌, ◌++◌, Some, None, Option, sym, refl, ap, ◌∙◌, subst, inl, inr, ⊎_elim, append_assoc, le_of_suc-le-suc, not-suc-le-zero, eq-or-lt_of_le, arith}
-use Rattle.std.proofs.lemmas.Bool.{eqb-true, eq-eqb, ltb-true, lt-ltb, cond_both, and_parts, and_from, or_parts, or_cases, or_right, not-true, not-false, not_from_false, cases_Bool}
+use Rattle.std.proofs.lemmas.Bool.{eqb-true, eq-eqb, ltb-true, lt-ltb, cond_both, and_parts, and_from, or_parts, or_cases, or_right, not-true, not-false, not_from_false}
 use Rattle.quorum.specs.Sets.{member}
 use Rattle.quorum.specs.Truth.{clash, all-or}
 use Rattle.vote.specs.declared.Vote.{Vote}
 use Rattle.vote.specs.History.{counted}
-use Rattle.vote.specs.Search.{given, or_else, when, all-below}
+use Rattle.vote.specs.Search.{given, all-below}
 use Rattle.vote.specs.Setting.{Setting, Protocol}
-use Rattle.vote.proofs.Options.{given-found, given-from, else-cases, else-left, else-right, when-found, when-from}
+use Rattle.vote.proofs.Options.{given-found, given-from, else-cases, else-right, when-found, when-from}
 use Rattle.vote.proofs.Seeking.{all_found, all_from}
 use Rattle.vote.proofs.Counting.{counted-more}
 use Rattle.agreement.specs.Runs.{Event, starts, counts, start_of, history, posted, Crew, Steady, Honest, Legal}

@@ -1,5 +1,5 @@
 -- A run that is written out is legal where a test says so, which the checker computes. Assumes nothing.
-use Rattle.std.proofs.Common.{◌≡◌, ℕ, ◌<◌, ◌≤◌, Bool, true, false, not, ◌&&◌, ◌||◌, ltb, leb, List, [], ◌∷◌, reverse, Some, None, Option, refl, ⊎_elim}
+use Rattle.std.proofs.Common.{◌≡◌, ℕ, Bool, true, not, ◌&&◌, ◌||◌, ltb, leb, List, [], ◌∷◌, reverse, Some, None, Option, refl, ⊎_elim}
 use Rattle.std.proofs.lemmas.Bool.{ltb-true, leb-true, lt-ltb, and_parts, and_from, or_cases, not-true, not_from_false}
 use Rattle.quorum.specs.Sets.{member}
 use Rattle.quorum.specs.Truth.{clash}

@@ -1,15 +1,14 @@
 -- Runs of any method whose boards take nothing back: what is counted of an honest board, it has posted. Assumes nothing.
-use Rattle.std.proofs.Common.{◌≡◌, ℕ, ◌<◌, ◌≤◌, Bool, true, false, cond, eqb, ◌⊎◌, List, [], ◌∷◌, ◌++◌, Some, None, Option, sym, refl, ap, ◌∙◌, subst, inl, inr, ⊎_elim, arith}
+use Rattle.std.proofs.Common.{◌≡◌, ℕ, ◌≤◌, Bool, true, false, cond, eqb, List, [], ◌∷◌, ◌++◌, Some, None, Option, refl, subst, ⊎_elim}
 use mathlib.Core.Path.{subst₃}
 use Rattle.std.proofs.lemmas.Bool.{false≢true, or_cases, eqb-true}
 use Rattle.vote.specs.declared.Vote.{Vote}
-use Rattle.vote.specs.declared.Decision.{Decision}
-use Rattle.vote.specs.History.{counted, memo}
-use Rattle.vote.specs.Search.{or_else, when, given}
+use Rattle.vote.specs.History.{counted}
+use Rattle.vote.specs.Search.{given}
 use Rattle.vote.specs.Setting.{Setting, Protocol}
-use Rattle.vote.proofs.Options.{given-found, given-from, holds-one, holds-none, else-cases, else-left, else-right, else-keeps, when-found}
+use Rattle.vote.proofs.Options.{holds-none, else-cases, else-left, else-keeps, when-found}
 use Rattle.vote.proofs.Counting.{vote-is}
-use Rattle.agreement.specs.Runs.{Event, starts, counts, start_of, history, posts-from, posted, decision, Crew, Steady, Honest, May-follow, Legal}
+use Rattle.agreement.specs.Runs.{Event, starts, counts, start_of, history, posts-from, posted, Crew, Honest, Legal}
 
 -- ---- one event more
 pub grow : (P : List Vote → Type 0) (b : Bool) (w : Vote) (h : List Vote) → (P h → P (w ∷ h)) → P h → P (cond b (w ∷ h) h)

@@ -1,8 +1,8 @@
 -- The facts about strong and ample sets, for the steady boards of a crew. Assumes nothing.
-use Rattle.std.proofs.Common.{◌≡◌, ℕ, ◌<◌, ◌≤◌, Bool, true, false, ◌||◌, ◌⊎◌, refl, inl, inr, ⊎_elim}
+use Rattle.std.proofs.Common.{◌≡◌, ℕ, ◌≤◌, Bool, true, false, ◌||◌, ◌⊎◌, refl, inl, inr, ⊎_elim}
 use Rattle.std.proofs.lemmas.Bool.{or_cases, or_parts}
 use Rattle.quorum.specs.Sets.{member}
-use Rattle.quorum.specs.Rules.{Rule, strongBy, ampleBy}
+use Rattle.quorum.specs.Rules.{strongBy, ampleBy}
 use Rattle.quorum.specs.Truth.{clash, all-or}
 use Rattle.quorum.proofs.Tested.{strongBy-outside, outside-ampleBy, ampleBy-meet-outside, ampleBy-outside-strong, split-strongBy}
 use Rattle.vote.specs.Setting.{Setting, Protocol}

@@ -1,5 +1,5 @@
 -- How far two decisions are apart. Assumes nothing.
-use Rattle.std.specs.Prelude.{◌≡◌, ℕ, ◌⊎◌}
+use Rattle.std.specs.Prelude.{◌≡◌, ◌⊎◌}
 use Rattle.vote.specs.declared.Decision.{Decision}
 
 -- no character: (0, 0)

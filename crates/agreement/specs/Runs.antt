@@ -2,7 +2,7 @@
 use Rattle.std.specs.Prelude.{◌≡◌, ℕ, ◌<◌, ◌≤◌, Bool, true, false, cond, ◌&&◌, List, [], ◌∷◌, Some, None, Option, ◌==◌}
 use Rattle.quorum.specs.Limits.{max-crew}
 use Rattle.quorum.specs.Sets.{member}
-use Rattle.quorum.specs.Rules.{Rule, Lawful}
+use Rattle.quorum.specs.Rules.{Lawful}
 use Rattle.vote.specs.declared.Decision.{Decision}
 use Rattle.vote.specs.declared.Vote.{Vote}
 use Rattle.vote.specs.Search.{or_else, when, given}

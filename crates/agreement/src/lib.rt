@@ -4,6 +4,7 @@
 // Each function here stands for a theorem: its contract says it, and the check asks for its proof. Called, it does nothing.
 
 #![tactic(auto)]
+
 ghost use Rattle.agreement.specs.Promises.{Agreement, Echo-binds-whatever-starts, Every-run-goes-on};
 ghost use Rattle.agreement.specs.Plain.Played.{Plain-runs-happen};
 ghost use Rattle.agreement.specs.Echo.Played.{Echo-runs-happen};

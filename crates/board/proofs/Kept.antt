@@ -1,20 +1,18 @@
 -- What a started board keeps to, from what its method's board does. Assumes nothing.
-use Rattle.std.proofs.Common.{◌≡◌, ℕ, ◌*◌, ◌≤◌, Bool, true, false, cond, ◌&&◌, eqb, List, [], ◌∷◌, Some, None, Option, sym, refl, ap, ◌∙◌, arith}
-use Rattle.std.proofs.lemmas.Bool.{and_parts, cond-true, cond-false, cond_both, eqb-true, ne_eqb}
-use Rattle.quorum.specs.Rules.{Rule, Lawful}
+use Rattle.std.proofs.Common.{◌≡◌, ℕ, true, eqb, List, [], ◌∷◌, Some, None, Option, sym, ◌∙◌, arith}
+use Rattle.std.proofs.lemmas.Bool.{and_parts, cond-false, cond_both, eqb-true, ne_eqb}
+use Rattle.quorum.specs.Rules.{Lawful}
 use Rattle.vote.specs.declared.Method.{Method}
 use Rattle.vote.specs.declared.Method.TheVariants.{Plain, Echo}
-use Rattle.vote.specs.declared.Decision.{Decision}
 use Rattle.vote.specs.declared.Vote.{Vote}
 use Rattle.vote.specs.Search.{is}
 use Rattle.vote.specs.Setting.{Setting}
-use Rattle.agreement.specs.Plain as plainly
 use Rattle.agreement.specs.Plain.{branch-posted, posts}
 use Rattle.heard.specs.Repeats.{repeats}
 use Rattle.plain_board.specs.Step.{taken}
 use Rattle.plain_board.proofs.Kept.{marks-hold}
 use Rattle.echo_board.proofs.Facts.{echo-facts}
-use Rattle.board.specs.Shown.{with-vote, method-of}
+use Rattle.board.specs.Shown.{method-of}
 use Rattle.board.specs.Laws.{Method-facts}
 
 is-once : (o : Option ℕ) (u v : ℕ) → is u o ≡ true → is v o ≡ true → u ≡ v

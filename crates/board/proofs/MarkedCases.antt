@@ -1,5 +1,5 @@
 -- The marked cases have their answers: one computed equation over the whole table, and its rule at each entry. Assumes nothing.
-use Rattle.std.proofs.Common.{◌≡◌, ℕ, ◌<◌, List, [], ◌∷◌, map, length, get_or, sym, refl, ap, ◌∙◌}
+use Rattle.std.proofs.Common.{◌≡◌, ℕ, List, [], map, get_or, sym, refl, ap, ◌∙◌}
 use lib.Count.{ones, ones_in}
 use Rattle.std.proofs.lemmas.List.{get_or-map}
 use Rattle.quorum.specs.Sets.{member, setOf, rest}

@@ -1,5 +1,5 @@
 -- One vote more makes a board post at most six words, which fit into 114 bytes. Assumes nothing.
-use Rattle.std.proofs.Common.{◌≡◌, ℕ, ◌+◌, ◌*◌, ◌/◌, ◌%◌, ◌^◌, ◌≤◌, Bool, true, false, cond, List, [], ◌∷◌, length, get_or, sym, refl, ap, ◌∙◌, arith, lit<}
+use Rattle.std.proofs.Common.{◌≡◌, ℕ, ◌+◌, ◌*◌, ◌/◌, ◌%◌, ◌^◌, ◌≤◌, List, length, get_or, ap, ◌∙◌, arith, lit<}
 use lib.Count.{ones, ones_cat, ones-ones}
 use Rattle.std.proofs.lemmas.Nat.{mod_below, div-add-mod', one_shl}
 use Rattle.std.proofs.lemmas.Bool.{cond_both}
@@ -16,7 +16,7 @@ use Rattle.wire.specs.Slips.{words_of}
 use Rattle.wire.proofs.Counting.{count-more}
 use Rattle.wire.proofs.Slipped.{none-posted-none}
 use Rattle.board.specs.declared.fit.Fit.{Fit}
-use Rattle.board.specs.Shown.{setting-of, method-of, repeats, answer-by, answer-of}
+use Rattle.board.specs.Shown.{setting-of, method-of, repeats, answer-of}
 use Rattle.board.specs.Started.{posted-of, slip-of}
 use Rattle.board.specs.Laws.{Six-words}
 use Rattle.board.proofs.Starts.{start_word}

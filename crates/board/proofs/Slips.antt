@@ -1,5 +1,5 @@
 -- A fitted board's address is one that frames can carry, so that it always gets its slip. Assumes nothing.
-use Rattle.std.proofs.Common.{◌≡◌, ℕ, ◌≤◌, true, ◌&&◌, List, None, Ok, Err, Result, sym, ap, ◌∙◌, arith, lit≤}
+use Rattle.std.proofs.Common.{◌≡◌, ℕ, ◌≤◌, true, None, Ok, Err, Result, sym, ap, ◌∙◌, arith, lit≤}
 use Rattle.std.proofs.lemmas.Bool.{and_parts}
 use Rattle.vote.specs.declared.News.{News}
 use Rattle.wire.specs.declared.fault.FrameFault.{FrameFault}
@@ -9,7 +9,6 @@ use Rattle.wire.specs.Fields.{is_within}
 use Rattle.wire.specs.Limits.{max-id, max-sender, max-value}
 use Rattle.wire.specs.Slips.{word_of, mapped}
 use Rattle.wire.specs.Writes.{range-fault, unless}
-use Rattle.wire.proofs.FrameText.{Ranges}
 use Rattle.wire.proofs.Ranging.{ranges-none}
 use Rattle.board.specs.declared.fit.Fit.{Fit}
 use Rattle.board.specs.Sound.{sound-fit}

@@ -1,7 +1,6 @@
 -- What a board posts as it starts, by its method. Assumes nothing.
-use Rattle.std.proofs.Common.{◌≡◌, ℕ, ◌*◌, ◌%◌, ◌^◌, ◌≤◌, Bool, ◌&&◌, List, [], ◌∷◌, Some, sym, refl, ap, ◌∙◌, ap₂}
+use Rattle.std.proofs.Common.{◌≡◌, ℕ, ◌*◌, ◌%◌, ◌^◌, ◌≤◌, [], ◌∷◌, Some, refl, ap₂}
 use Rattle.quorum.specs.Sets.{setOf}
-use Rattle.quorum.specs.Rules.{Rule}
 use Rattle.vote.specs.declared.Depth.{Depth}
 use Rattle.vote.specs.declared.Depth.TheVariants.{One, Two}
 use Rattle.vote.specs.declared.Method.{Method}

@@ -1,5 +1,5 @@
 -- A record of either method shows what the board has counted, and counting a vote on it does too. Assumes nothing.
-use Rattle.std.proofs.Common.{◌≡◌, ℕ, ◌≤◌, Bool, cond, List, [], ◌∷◌, Option, sym, refl, ap, ◌∙◌, ap₂, arith}
+use Rattle.std.proofs.Common.{◌≡◌, ℕ, ◌≤◌, List, Option, sym, refl, ap, ◌∙◌, arith}
 use Rattle.quorum.specs.Rules.{Rule}
 use Rattle.vote.specs.declared.Method.{Method}
 use Rattle.vote.specs.declared.Method.TheVariants.{Plain, Echo}

@@ -1,5 +1,5 @@
 -- What each fault of a board tells: its number, and of a frame's fault the place and the board. Assumes nothing.
-use Rattle.std.specs.Prelude.{ℕ, Some, None, Option}
+use Rattle.std.specs.Prelude.{ℕ, Some, None}
 use Rattle.refusal.specs.declared.Refusal.{Refusal}
 use Rattle.wire.specs.Faults as frame
 use Rattle.board.specs.declared.fault.BoardFault.{BoardFault}

@@ -1,6 +1,5 @@
 -- What a fitted board keeps of its settings. Assumes nothing.
-use Rattle.std.specs.Prelude.{◌≡◌, ℕ}
-use Rattle.vote.specs.declared.Depth.{Depth}
+use Rattle.std.specs.Prelude.{◌≡◌}
 use Rattle.vote.specs.Setting.{grades}
 use Rattle.board.specs.declared.fit.Fit.{Fit}
 use Rattle.board.specs.declared.settings.Settings.{Settings}

@@ -1,5 +1,5 @@
 -- Two cases whose answers are fixed once and for all, by the echo method's definitions. Assumes nothing.
-use Rattle.std.specs.Prelude.{◌≡◌, ℕ, ◌<◌, Bool, cond, List, [], ◌∷◌, ◌++◌, map, length, Some, None, Option, slice_index_or}
+use Rattle.std.specs.Prelude.{◌≡◌, ℕ, ◌<◌, cond, List, [], ◌∷◌, ◌++◌, map, length, Some, None, Option, slice_index_or}
 use Rattle.std.specs.List.{flat_map}
 use Rattle.quorum.specs.Counting.{count-rule}
 use Rattle.vote.specs.declared.Decision.{Decision}

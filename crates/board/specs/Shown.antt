@@ -1,5 +1,5 @@
 -- What a started board's record holds for what it has counted, by its method, and what one vote more makes of it. Assumes nothing.
-use Rattle.std.specs.Prelude.{◌≡◌, ℕ, Bool, cond, List, [], ◌∷◌, Some, None, Option}
+use Rattle.std.specs.Prelude.{◌≡◌, ℕ, Bool, cond, List, ◌∷◌, Some, None, Option}
 use Rattle.quorum.specs.Rules.{Rule}
 use Rattle.vote.specs.declared.Decision.{Decision}
 use Rattle.vote.specs.declared.Method.{Method}
@@ -8,7 +8,7 @@ use Rattle.vote.specs.declared.News.{News}
 use Rattle.vote.specs.declared.Vote.{Vote}
 use Rattle.vote.specs.Setting.{Setting}
 pub use Rattle.agreement.specs.Methods.{method-of}
-use Rattle.vote.specs.News.{news-of, first-news}
+use Rattle.vote.specs.News.{news-of}
 use Rattle.heard.specs.Repeats as echo-counts
 use Rattle.echo_board.specs.Records as echo-board
 use Rattle.plain_board.specs.Shown as plain-board

@@ -1,12 +1,11 @@
 -- What a started board answers to a frame, and the slip that goes with the answer. Assumes nothing.
-use Rattle.std.specs.Prelude.{◌≡◌, ℕ, List, Some, None, Ok, Err, Option, Result}
+use Rattle.std.specs.Prelude.{◌≡◌, ℕ, List, Some, None, Ok, Option}
 use Rattle.quorum.specs.Rules.{Rule}
 use Rattle.vote.specs.declared.News.{News}
 use Rattle.vote.specs.declared.Vote.{Vote}
 use Rattle.wire.specs.declared.posted.Posted.{Posted}
 use Rattle.wire.specs.declared.word.Word.{Word}
 use Rattle.wire.specs.Slips.{none-posted}
-use Rattle.board.specs.declared.fault.BoardFault.{BoardFault}
 use Rattle.board.specs.declared.fit.Fit.{Fit}
 use Rattle.board.specs.declared.record.Record.{Record}
 use Rattle.board.specs.declared.answer.Taken.{Taken}

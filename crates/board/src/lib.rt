@@ -2,6 +2,7 @@
 // How it votes is told in the crates below; which boards there are, and how words travel between them, is left to the crates above.
 
 #![tactic(auto)]
+
 mod answer;
 mod fault;
 mod fit;

@@ -1,5 +1,5 @@
 -- A line that says a port and a frame is answered by what the board makes of the frame. Assumes nothing.
-use Rattle.std.proofs.Common.{◌≡◌, ℕ, List, length, drop, Some, Ok, Err, Option, Result, sym, ap, ◌∙◌, subst}
+use Rattle.std.proofs.Common.{◌≡◌, ℕ, List, length, drop, Some, Ok, Err, Option, Result, sym, subst}
 use Rattle.quorum.specs.Rules.{Rule}
 use Rattle.wire.specs.declared.posted.Posted.{Posted}
 use Rattle.wire.specs.declared.word.Word.{Word}

@@ -1,13 +1,11 @@
 -- What the first line asks for, and the lowest number that stands against it. Assumes nothing.
-use Rattle.std.specs.Prelude.{ℕ, min, Bool, cond, ◌&&◌, List, length, drop, Some, None, Option, ◌==◌, nat_lt, slice_index}
+use Rattle.std.specs.Prelude.{ℕ, cond, ◌&&◌, List, length, drop, Some, None, Option, ◌==◌, nat_lt, slice_index}
 use Rattle.vote.specs.declared.Method.{Method}
 use Rattle.vote.specs.declared.Method.TheVariants.{Plain, Echo}
-use Rattle.quorum.specs.Rules.{Rule}
 use Rattle.quorum.specs.Counting.{count-rule}
 use Rattle.quorum.specs.Faults as rule
 use Rattle.quorum.specs.declared.fault.RuleFault.{RuleFault}
 use Rattle.board.specs.declared.fault.BoardFault.{BoardFault}
-use Rattle.board.specs.declared.settings.Settings.{Settings}
 use Rattle.board.specs.Fitting.{settings-fault}
 use Rattle.board.specs.Faults as board
 use Rattle.board_bench.specs.declared.asked.Asked.{Asked}

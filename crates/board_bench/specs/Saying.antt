@@ -1,5 +1,5 @@
 -- What a frame line says. Assumes nothing.
-use Rattle.std.specs.Prelude.{ℕ, ◌+◌, Bool, cond, List, length, take, Some, None, Option, nat_lt}
+use Rattle.std.specs.Prelude.{ℕ, ◌+◌, cond, List, length, take, Some, None, Option, nat_lt}
 use Rattle.board_bench.specs.declared.said.Said.{Said}
 use Rattle.board_bench.specs.Lines.{comma, and_then, number_in, until}
 

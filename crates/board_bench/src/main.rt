@@ -4,6 +4,7 @@
 // answer is written is proved in the modules; here is only what no contract can speak of: the input is read, and what the board answers is printed.
 
 #![tactic(auto)]
+
 mod answer;
 mod asked;
 mod decided;

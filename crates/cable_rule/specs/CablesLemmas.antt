@@ -1,6 +1,6 @@
 -- The family of the sets that lie on one cable keeps the four laws, under every cover. Assumes nothing.
-use Rattle.std.specs.Prelude.{◌≡◌, ℕ, ◌^◌, ◌<◌, Bool, true, false, not, ◌&&◌, ◌||◌, List, [], ◌∷◌, nat_lt, refl}
-use Rattle.std.proofs.Common.{sym, ap, ◌∙◌, ⊎_elim}
+use Rattle.std.specs.Prelude.{◌≡◌, ℕ, ◌^◌, true, false, not, ◌&&◌, List, [], ◌∷◌, nat_lt, refl}
+use Rattle.std.proofs.Common.{⊎_elim}
 use Rattle.std.proofs.lemmas.Bool.{and_parts, or_cases, or_left, or_right, or_from, not-true, ltb-true}
 use Rattle.quorum.specs.Sets.{member, Part, part, inCrew, in_some, allPass}
 use Rattle.quorum.specs.Rules.{Lawful}

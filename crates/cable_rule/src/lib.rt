@@ -2,6 +2,7 @@
 // As some board is on neither cable, no number of such sets holds the whole crew: the cover may be any, and the crew larger than other rules allow.
 
 #![tactic(auto)]
+
 ghost use Rattle.std.specs.Prelude.{◌≡◌, true, false, MatchOption};
 ghost use Rattle.quorum.specs.Sets.{member, inCrew};
 ghost use Rattle.cable_rule.specs.Cables.{cable-rule, fair};

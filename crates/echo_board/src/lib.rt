@@ -5,6 +5,7 @@
 // Wrong numbers are refused by whoever calls, and how words travel is left to others too.
 
 #![tactic(auto)]
+
 pub mod board;
 pub mod findings;
 pub mod news;

@@ -2,6 +2,7 @@
 // the word that it carries, or the number and place of the refusal; and at the end how many there were.
 
 #![tactic(auto)]
+
 mod tally;
 
 use std::io;

@@ -1,13 +1,11 @@
 -- What an accepted opening settles: good terms, and records of boards that have counted nothing. Assumes nothing.
-use Rattle.std.proofs.Common.{◌≡◌, ℕ, zero, suc, ◌<◌, ◌≤◌, Bool, true, false, cond, not, ◌&&◌, eqb, ltb, leb, List, [], ◌∷◌, map, length, get_or, take, Some, None, Option, sym, refl, ap, ◌∙◌, subst, ⊎_elim, arith}
-use Rattle.std.specs.List.{range_with_len}
+use Rattle.std.proofs.Common.{◌≡◌, ℕ, zero, suc, ◌<◌, ◌≤◌, Bool, true, false, cond, not, ◌&&◌, ltb, leb, List, [], ◌∷◌, length, get_or, take, Some, None, Option, sym, refl, ap, ◌∙◌, subst, ⊎_elim, arith}
 use Rattle.std.proofs.lemmas.List.FromFn.{fill_by_all, length-map-range_with_len}
 use Rattle.std.proofs.lemmas.Bool.{and_parts, and_from, eq-eqb, cond-true, cond-false, ltb-false, le-leb, lt-ltb, le-ltb, not-true, cases_lt}
 use Rattle.quorum.specs.Rules.{Rule}
 use Rattle.quorum.specs.Sets.{allPass}
 use Rattle.vote.specs.declared.Method.{Method}
 use Rattle.vote.specs.declared.Method.TheVariants.{Plain, Echo}
-use Rattle.vote.specs.Search.{given}
 use Rattle.vote.proofs.Options.{holds-none}
 use Rattle.agreement.specs.Methods.{needed-cover}
 use Rattle.agreement.specs.Runs.{start_of, history}
@@ -20,13 +18,12 @@ use Rattle.board.specs.Shown.{record_of}
 use Rattle.group.specs.declared.fault.GroupFault.{GroupFault}
 use Rattle.group.specs.declared.opening.Opening.{Opening}
 use Rattle.group.specs.declared.records.Board.{Board}
-use Rattle.group.specs.declared.records.Records.{Records}
 use Rattle.group.specs.declared.terms.Terms.{Terms}
 use Rattle.group.specs.Calls.{board-of, records-of, run_of, after}
 use Rattle.group.specs.Opening.{opening-fault, kept-start, Good-opening, Settles}
 use Rattle.group.specs.Promises.{Opened}
 use Rattle.group.specs.Sound.{all-characters, sound-terms}
-use Rattle.group.specs.Terms.{start-at, fit_at}
+use Rattle.group.specs.Terms.{fit_at}
 use Rattle.group.proofs.Numbers.{character-at}
 
 -- ---- tests of a list, place by place

@@ -4,21 +4,20 @@ use Rattle.std.proofs.lemmas.Bool.{false≢true}
 use Rattle.quorum.specs.Rules.{Rule, Lawful}
 use Rattle.vote.specs.declared.Vote.{Vote}
 use Rattle.wire.specs.declared.posted.Posted.{Posted}
-use Rattle.wire.specs.declared.word.Word.{Word}
 use Rattle.wire.specs.Slips.{words_of}
 use Rattle.board.specs.declared.answer.Taken.{Taken}
 use Rattle.board.specs.declared.fault.BoardFault.{BoardFault}
 use Rattle.board.specs.declared.fit.Fit.{Fit}
 use Rattle.board.specs.declared.record.Record.{Record}
-use Rattle.board.specs.Shown.{record_of, answer-of, with-vote}
-use Rattle.board.specs.Started.{Accepts, Took, slip-of, told_of}
+use Rattle.board.specs.Shown.{record_of, answer-of}
+use Rattle.board.specs.Started.{Accepts, slip-of}
 use Rattle.board.specs.Taking.{word-taken, vote-of}
 use Rattle.board.proofs.Six.{six-words}
 use Rattle.group.specs.declared.records.Board.{Board}
 use Rattle.group.specs.declared.turn.Done.{Done}
 use Rattle.group.specs.declared.turn.Turn.{Turn}
 use Rattle.group.specs.Calls.{done-of, turn-of, heard-with, board-told}
-use Rattle.group.specs.Steps.{raised, Board-takes}
+use Rattle.group.specs.Steps.{Board-takes}
 
 module _ (R : Rule) (f : Fit) (port : ℕ) (xs : List ℕ) (o : Board) where
   abbrev with-state : Record → Board

@@ -1,13 +1,12 @@
 -- A word that is brought to a board as a frame. Assumes nothing.
-use Rattle.std.proofs.Common.{◌≡◌, ℕ, ◌-◌, ◌≤◌, true, cond, leb, List, ◌++◌, length, take, drop, replicate, None, Ok, Err, Result, sym, refl, ap, ◌∙◌, subst, arith}
+use Rattle.std.proofs.Common.{◌≡◌, ℕ, ◌-◌, true, cond, List, length, take, Ok, Err, Result, sym, ap, ◌∙◌, subst, arith}
 use Rattle.std.proofs.lemmas.Bool.{le-leb}
 use Rattle.quorum.specs.Rules.{Rule}
-use Rattle.agreement.specs.Runs.{Event}
 use Rattle.wire.specs.declared.fault.FrameFault.{FrameFault}
 use Rattle.wire.specs.declared.word.Word.{Word}
 use Rattle.wire.specs.Faults.{fault}
 use Rattle.wire.specs.Frames.{carried, frame-of}
-use Rattle.wire.specs.Writes.{word-written, fitting, unless, buffer-after, zero-filled}
+use Rattle.wire.specs.Writes.{word-written, fitting, unless, buffer-after}
 use Rattle.wire.proofs.FrameText.{carried-ranges, frame-max-length}
 use Rattle.wire.proofs.Ranging.{ranges-none}
 use Rattle.wire.proofs.Outcomes.{ok_same, ok-not-err}
@@ -17,7 +16,6 @@ use Rattle.group.specs.declared.fault.GroupFault.{GroupFault}
 use Rattle.group.specs.declared.records.Records.{Records}
 use Rattle.group.specs.declared.terms.Terms.{Terms}
 use Rattle.group.specs.declared.turn.Turn.{Turn}
-use Rattle.group.specs.Calls.{records-of, taken_at, with-word, told_with}
 use Rattle.group.specs.Steps.{raised, Takes, Brings}
 
 -- a word that a frame can carry is written

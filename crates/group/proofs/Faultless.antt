@@ -4,7 +4,6 @@ use Rattle.std.proofs.lemmas.Bool.{and_parts, or_parts, not-true, ltb-true}
 use Rattle.quorum.specs.Rules.{Rule}
 use Rattle.quorum.specs.Truth.{clash}
 use Rattle.vote.specs.Search.{given}
-use Rattle.vote.proofs.Options.{given-from}
 use Rattle.agreement.specs.Runs.{Event, start_of, posted}
 use Rattle.group.specs.declared.fault.GroupFault.{GroupFault}
 use Rattle.group.specs.declared.terms.Terms.{Terms}

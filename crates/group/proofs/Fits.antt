@@ -1,5 +1,5 @@
 -- The settings of a board in a group are good, and which boards lie. Assumes nothing.
-use Rattle.std.proofs.Common.{◌≡◌, ℕ, ◌<◌, ◌≤◌, Bool, true, false, ◌&&◌, refl, ap, arith}
+use Rattle.std.proofs.Common.{◌≡◌, ℕ, ◌<◌, Bool, true, false, ◌&&◌, refl, arith}
 use Rattle.std.proofs.lemmas.Bool.{and_from}
 use Rattle.quorum.specs.Rules.{Rule}
 use Rattle.quorum.specs.Sets.{member}
@@ -11,7 +11,7 @@ use Rattle.wire.proofs.FrameText.{within-from}
 use Rattle.board.specs.Sound.{sound-fit}
 use Rattle.group.specs.declared.terms.Terms.{Terms}
 use Rattle.group.specs.Terms.{setting-in, start-at, lies}
-use Rattle.group.proofs.Numbers.{Numbers, numbers}
+use Rattle.group.proofs.Numbers.{numbers}
 
 pub fit-sound : (T : Terms) (i : ℕ) → i < 16 → sound-fit T.characters T.group T.change i (start-at T i) ≡ true
 fit-sound T i l =

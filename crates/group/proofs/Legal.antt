@@ -1,17 +1,15 @@
 -- The run that a list of calls leads to is legal, keeps to the starting characters, and only grows. Assumes nothing.
-use Rattle.std.proofs.Common.{◌≡◌, ℕ, ◌<◌, ◌≤◌, Bool, true, false, cond, eqb, List, [], ◌∷◌, ◌++◌, Some, None, Ok, Err, Option, Result, sym, refl, ap, ◌∙◌, subst, subst₂, ⊎_elim, append_assoc, arith}
+use Rattle.std.proofs.Common.{◌≡◌, ℕ, ◌<◌, true, false, List, [], ◌∷◌, ◌++◌, Some, Ok, Err, Result, sym, refl, ap, ◌∙◌, subst, ⊎_elim, append_assoc, arith}
 use Rattle.std.proofs.lemmas.Bool.{cond_both, eqb-true}
 use Rattle.quorum.specs.Rules.{Rule, Lawful}
 use Rattle.quorum.specs.Truth.{clash}
 use Rattle.vote.specs.declared.Vote.{Vote}
 use Rattle.vote.specs.Search.{given}
 use Rattle.vote.proofs.Options.{holds-none, else-cases, when-found}
-use Rattle.agreement.specs.Runs.{Event, starts, counts, start_of, history, posted, Crew, Legal, May-follow}
-use Rattle.agreement.specs.Promises.{Keeps-to}
+use Rattle.agreement.specs.Runs.{Event, starts, counts, start_of, history, posted, Crew, Legal}
 use Rattle.agreement.proofs.Agreeing.{bounded}
 use Rattle.agreement.proofs.Running.{posted-found, start_fits}
 use Rattle.wire.specs.declared.word.Word.{Word}
-use Rattle.wire.specs.Frames.{word_in, frame-of}
 use Rattle.wire.proofs.FrameText.{Ranges, word-reads}
 use Rattle.wire.proofs.Outcomes.{ok_same}
 use Rattle.board.specs.declared.fault.BoardFault.{BoardFault}
@@ -22,8 +20,8 @@ use Rattle.group.specs.declared.terms.Terms.{Terms}
 use Rattle.group.specs.Calls.{Call, starting, carrying, forging, with-word, taken_at, frame-by, fault-of, done-by, next, run_of}
 use Rattle.group.specs.Promises.{Opened, Honest}
 use Rattle.group.specs.Terms.{setting-in, method-in, start-at, fit_at, lies}
-use Rattle.group.proofs.Numbers.{Numbers, numbers}
-use Rattle.group.proofs.Faultless.{May-start, may-start, May-carry, may-carry, May-forge, may-forge}
+use Rattle.group.proofs.Numbers.{numbers}
+use Rattle.group.proofs.Faultless.{may-start, may-carry, may-forge}
 
 module _ {R : Rule} {T : Terms} (law : Lawful R) (accepted : Opened R T) where
   -- the crew that takes part

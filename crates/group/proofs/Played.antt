@@ -1,17 +1,16 @@
 -- From what a call on the records does to what it promises. Assumes nothing.
-use Rattle.std.proofs.Common.{◌≡◌, ℕ, ◌<◌, Bool, true, false, cond, List, [], ◌∷◌, Some, None, Ok, Err, Option, Result, sym, refl, ap, ◌∙◌}
+use Rattle.std.proofs.Common.{◌≡◌, ℕ, true, cond, List, ◌∷◌, Some, None, Err, Option, Result, sym, ap, ◌∙◌}
 use Rattle.quorum.specs.Rules.{Rule, Lawful}
 use Rattle.vote.specs.Search.{given}
 use Rattle.agreement.specs.Runs.{Event}
-use Rattle.wire.specs.declared.word.Word.{Word}
 use Rattle.wire.specs.Frames.{carried}
 use Rattle.wire.proofs.FrameText.{ranges-carried}
 use Rattle.group.specs.declared.fault.GroupFault.{GroupFault}
 use Rattle.group.specs.declared.records.Records.{Records}
 use Rattle.group.specs.declared.terms.Terms.{Terms}
 use Rattle.group.specs.declared.turn.Turn.{Turn}
-use Rattle.group.specs.Calls.{Call, carrying, records-of, fault-of, carry-fault, done-by, told-by, unless, next, answer, run_of, after, answered}
-use Rattle.group.specs.Promises.{Opened, Reached, Plays-after, Plays}
+use Rattle.group.specs.Calls.{Call, carrying, records-of, fault-of, done-by, told-by, unless, next, answer, run_of, after, answered}
+use Rattle.group.specs.Promises.{Reached, Plays}
 use Rattle.group.specs.Steps.{Stands-against}
 use Rattle.group.proofs.Faultless.{may-carry}
 use Rattle.group.proofs.Legal.{run-legal, word-ranges}

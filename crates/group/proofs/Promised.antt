@@ -1,5 +1,5 @@
 -- The promise of a group, from agreement over all runs. Assumes nothing.
-use Rattle.std.proofs.Common.{◌≡◌, ℕ, List, ◌++◌, sym, ◌∙◌, subst}
+use Rattle.std.proofs.Common.{List, ◌++◌, sym, ◌∙◌, subst}
 use Rattle.quorum.specs.Rules.{Rule, Lawful}
 use Rattle.agreement.specs.Promises as runs
 use Rattle.agreement.specs.Promises.{Agreement}
@@ -7,7 +7,7 @@ use Rattle.agreement.specs.Runs.{Event, Legal}
 use Rattle.agreement.proofs.Agreeing.{agreement}
 use Rattle.group.specs.declared.terms.Terms.{Terms}
 use Rattle.group.specs.Calls.{Call, run_of}
-use Rattle.group.specs.Promises.{Opened, Promise, In-span}
+use Rattle.group.specs.Promises.{Opened, Promise}
 use Rattle.group.specs.Terms.{setting-in, method-in, start-at}
 use Rattle.group.proofs.Legal.{crew, run-legal, run-keeps, run-grown}
 

@@ -1,26 +1,23 @@
 -- The records of a run, and what one event more makes of them. Assumes nothing.
-use Rattle.std.proofs.Common.{◌≡◌, ℕ, ◌<◌, ◌≤◌, Bool, true, false, cond, ◌||◌, eqb, List, [], ◌∷◌, get_or, set, Some, None, Ok, Err, Option, Result, sym, refl, ap, ◌∙◌, subst, ap₂, ⊎_elim}
-use Rattle.std.proofs.lemmas.Bool.{cond_both, eq-eqb, ne_eqb, cases_Bool}
+use Rattle.std.proofs.Common.{◌≡◌, ℕ, ◌<◌, Bool, true, false, cond, ◌||◌, eqb, List, ◌∷◌, get_or, set, Ok, Err, Option, Result, sym, refl, ap, ◌∙◌, subst}
+use Rattle.std.proofs.lemmas.Bool.{cond_both, eq-eqb, ne_eqb}
 use Rattle.quorum.specs.Rules.{Rule}
 use Rattle.vote.specs.declared.Vote.{Vote}
-use Rattle.vote.specs.Search.{given, or_else, when}
+use Rattle.vote.specs.Search.{given}
 use Rattle.vote.proofs.Options.{given-else-when}
 use Rattle.agreement.specs.Runs.{Event, starts, counts, start_of, history}
 use Rattle.wire.specs.declared.word.Word.{Word}
-use Rattle.heard.specs.Shown.{table}
 use Rattle.heard.proofs.Grow.{table-set}
 use Rattle.heard.proofs.Read.{table_at}
 use Rattle.board.specs.declared.fault.BoardFault.{BoardFault}
 use Rattle.board.specs.declared.fit.Fit.{Fit}
-use Rattle.board.specs.declared.record.Record.{Record}
 use Rattle.board.specs.Shown.{record_of, repeats}
 use Rattle.board.specs.Taking.{vote-of}
-use Rattle.group.specs.declared.fault.GroupFault.{GroupFault}
 use Rattle.group.specs.declared.records.Board.{Board}
 use Rattle.group.specs.declared.records.Records.{Records}
 use Rattle.group.specs.declared.terms.Terms.{Terms}
 use Rattle.group.specs.declared.turn.Turn.{Turn}
-use Rattle.group.specs.Calls.{heard-with, board-told, board-of, records-of, taken_at, with-word, told_with}
+use Rattle.group.specs.Calls.{heard-with, board-of, records-of, taken_at, with-word, told_with}
 use Rattle.group.specs.Steps.{raised, Board-takes}
 use Rattle.group.specs.Terms.{start-at, fit_at}
 

@@ -1,14 +1,12 @@
 -- What stands against a call, by the tests that the code makes. Assumes nothing.
-use Rattle.std.proofs.Common.{◌≡◌, ℕ, ◌<◌, ◌≤◌, Bool, true, false, cond, not, ◌&&◌, ◌||◌, ltb, ◌⊎◌, List, Some, None, Option, sym, refl, ap, ◌∙◌, ⊎_elim, arith}
-use Rattle.std.proofs.lemmas.Bool.{and_parts, ltb-true, cases_Bool}
+use Rattle.std.proofs.Common.{◌≡◌, ℕ, ◌<◌, Bool, true, false, cond, not, ◌&&◌, ◌||◌, ltb, List, Some, None, Option, sym, refl, ap, ◌∙◌, arith}
+use Rattle.std.proofs.lemmas.Bool.{and_parts, ltb-true}
 use Rattle.quorum.specs.Rules.{Rule, Lawful}
-use Rattle.quorum.specs.Truth.{clash, false-unless}
+use Rattle.quorum.specs.Truth.{false-unless}
 use Rattle.vote.specs.Search.{given}
 use Rattle.vote.proofs.Options.{given-found, holds-none}
 use Rattle.agreement.specs.Runs.{Event, start_of, history, posted}
-use Rattle.agreement.proofs.Running.{posted-found, posted-from}
-use Rattle.board.specs.declared.record.Record.{Record}
-use Rattle.board.specs.Shown.{record_of, setting-of, method-of}
+use Rattle.board.specs.Shown.{setting-of, method-of}
 use Rattle.group.specs.declared.fault.GroupFault.{GroupFault}
 use Rattle.group.specs.declared.fault.GroupFault.TheVariants.{Outside, Listed, Begun, Idle, Unlisted, Unposted}
 use Rattle.group.specs.declared.terms.Terms.{Terms}

@@ -1,7 +1,6 @@
 -- The calls of a group: what each answers, and the run and the records that a list of calls leads to. Assumes nothing.
-use Rattle.std.specs.Prelude.{◌≡◌, ℕ, Bool, true, false, cond, not, ◌&&◌, ◌||◌, List, [], ◌∷◌, ◌++◌, length, replicate, Some, None, Ok, Err, Option, Result, nat_lt}
+use Rattle.std.specs.Prelude.{ℕ, Bool, cond, not, ◌&&◌, ◌||◌, List, [], ◌∷◌, length, Some, None, Ok, Err, Option, Result, nat_lt}
 use Rattle.quorum.specs.Rules.{Rule}
-use Rattle.vote.specs.declared.News.{News}
 use Rattle.vote.specs.declared.Vote.{Vote}
 use Rattle.vote.specs.Search.{given}
 use Rattle.agreement.specs.Runs.{Event, starts, counts, start_of, history, posted}
@@ -26,7 +25,7 @@ use Rattle.group.specs.declared.terms.Terms.{Terms}
 use Rattle.group.specs.declared.turn.Done.{Done}
 use Rattle.group.specs.declared.turn.Done.TheVariants.{Started as Has-started, Counted as Has-counted, Again as Found-again}
 use Rattle.group.specs.declared.turn.Turn.{Turn}
-use Rattle.group.specs.Terms.{setting-in, method-in, start-at, fit_at, lies}
+use Rattle.group.specs.Terms.{method-in, start-at, fit_at, lies}
 
 -- a call by its numbers: a board starts; a word comes to a board from the one that posted it (to, from, kind, value); bytes come to a board on the port of another (to, from, bytes)
 pub data Call : Type 0 where

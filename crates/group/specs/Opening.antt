@@ -1,5 +1,5 @@
 -- What stands against an opening, by rising number, and what an accepted one settles. Assumes nothing.
-use Rattle.std.specs.Prelude.{◌≡◌, ℕ, ◌<◌, ◌≤◌, Bool, cond, not, ◌&&◌, List, [], ◌∷◌, take, Option, nat_le, nat_lt, slice_index}
+use Rattle.std.specs.Prelude.{◌≡◌, ℕ, ◌<◌, ◌≤◌, cond, not, ◌&&◌, List, [], ◌∷◌, take, Option, nat_le, nat_lt, slice_index}
 use Rattle.quorum.specs.Rules.{Rule}
 use Rattle.vote.specs.Setting.{grades}
 use Rattle.wire.specs.Fields.{is_within}

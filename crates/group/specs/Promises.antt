@@ -1,5 +1,5 @@
 -- What is promised of a group, over every list of calls since an accepted opening, the newest call first. Assumes nothing.
-use Rattle.std.specs.Prelude.{◌≡◌, ℕ, ◌<◌, ◌≤◌, true, false, ◌≢◌, ◌⊎◌, List, [], ◌∷◌, ◌++◌, Some, None, Option, Result}
+use Rattle.std.specs.Prelude.{◌≡◌, ℕ, ◌<◌, ◌≤◌, true, false, ◌≢◌, ◌⊎◌, List, ◌∷◌, ◌++◌, Some, Option, Result}
 use Rattle.quorum.specs.Limits.{max-crew}
 use Rattle.quorum.specs.Sets.{member}
 use Rattle.quorum.specs.Rules.{Rule}

@@ -1,9 +1,8 @@
 -- What the functions on the records of a group owe. Assumes nothing.
-use Rattle.std.specs.Prelude.{◌≡◌, ℕ, ◌<◌, ◌≤◌, true, List, ◌∷◌, None, Ok, Err, Option, Result}
+use Rattle.std.specs.Prelude.{◌≡◌, ℕ, ◌<◌, true, List, ◌∷◌, Ok, Err, Option, Result}
 use Rattle.quorum.specs.Rules.{Rule}
 use Rattle.vote.specs.declared.Vote.{Vote}
-use Rattle.vote.specs.Search.{given}
-use Rattle.agreement.specs.Runs.{Event, starts, start_of}
+use Rattle.agreement.specs.Runs.{Event, starts}
 use Rattle.wire.specs.declared.word.Word.{Word}
 use Rattle.wire.specs.Frames.{carried, frame-of}
 use Rattle.board.specs.declared.fault.BoardFault.{BoardFault}

@@ -2,6 +2,7 @@
 // What a board makes of a frame is told in the crates below; lines of text are left to the crates above.
 
 #![tactic(auto)]
+
 mod fault;
 mod faults;
 mod group;

@@ -1,5 +1,5 @@
 -- What is done with sets of senders as numbers, one step at a time. Assumes nothing.
-use Rattle.std.specs.Prelude.{ℕ, ◌-◌, ◌^◌, Bool, cond, not, ◌&&◌, List, [], set, ◌==◌, bit_and, bit_or, nat_le, slice_index, slice_index_or, slice_set}
+use Rattle.std.specs.Prelude.{ℕ, ◌-◌, ◌^◌, Bool, cond, not, ◌&&◌, List, [], ◌==◌, bit_and, bit_or, nat_le, slice_index, slice_index_or, slice_set}
 use Rattle.quorum.specs.Sets.{member}
 use Rattle.quorum.specs.Rules.{Rule, strong, ample}
 use Rattle.vote.specs.declared.Vote.{Vote}

@@ -5,6 +5,7 @@
 // checked that sender, kind and value are in range.
 
 #![tactic(auto)]
+
 pub mod approval;
 pub mod counted;
 pub mod limits;

@@ -1,10 +1,10 @@
 -- A readable line is the one that its call is written as. Assumes nothing.
-use Rattle.std.proofs.Common.{◌≡◌, ℕ, ◌+◌, ◌-◌, ◌<◌, ◌≤◌, min, Bool, true, false, cond, ◌&&◌, eqb, ltb, leb, List, [], ◌∷◌, ◌++◌, length, get_or, take, drop, Some, None, decimal, Option, sym, refl, ap, ◌∙◌, subst, ap₂, true≢false, append_assoc, append-nil, arith, length-drop, take-append-drop, length-take}
+use Rattle.std.proofs.Common.{◌≡◌, ℕ, ◌+◌, ◌-◌, ◌<◌, ◌≤◌, Bool, true, false, cond, ◌&&◌, eqb, ltb, leb, List, [], ◌∷◌, ◌++◌, length, get_or, take, drop, Some, None, decimal, Option, sym, refl, ap, ◌∙◌, subst, ap₂, true≢false, append_assoc, append-nil, arith, length-drop, take-append-drop, length-take}
 use Rattle.std.proofs.lemmas.List.{take_all, take_more, drop_all, drop_more, get_or-drop}
-use Rattle.std.proofs.lemmas.Bool.{eqb-true, leb-true, ltb-true, and_parts}
+use Rattle.std.proofs.lemmas.Bool.{eqb-true, ltb-true, and_parts}
 use Rattle.vote.specs.declared.Method.{Method}
 use Rattle.vote.specs.declared.Method.TheVariants.{Plain, Echo}
-use Rattle.lines.specs.Calls.{Call, unreadable, opens, by_count, by-sets}
+use Rattle.lines.specs.Calls.{Call, unreadable}
 use Rattle.lines.specs.Lines.{line-feed, max-line, plain-letter, echo-letter, readable, lettered, method-of, open-by-count, open-by-sets, opened_in, start-with, carry-with, forged-in, whole, body, call_by, call-in, open-by-count-letter, open-by-sets-letter, start-letter, carry-letter, forge-letter}
 use Rattle.lines.specs.Parts.{comma, numbers-in, field_in}
 use Rattle.lines.specs.Texts.{letter-of, listed, Writes}

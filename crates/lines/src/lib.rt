@@ -2,6 +2,7 @@
 // Whether its numbers are in range, and what comes of the call, is left to the crates above.
 
 #![tactic(auto)]
+
 mod field;
 mod forge;
 mod head;

@@ -6,6 +6,7 @@
 // checked a word before it is counted here.
 
 #![tactic(auto)]
+
 pub mod limits;
 mod outcome;
 mod posted;

@@ -1,11 +1,11 @@
 -- Sets that code keeps as numbers and proofs speak of as tests: how the two go together. Assumes nothing.
-use Rattle.std.proofs.Common.{◌≡◌, ℕ, zero, suc, ◌+◌, ◌-◌, ◌*◌, ◌/◌, ◌%◌, ◌^◌, ◌<◌, ◌≤◌, Bool, true, false, cond, not, ◌&&◌, ◌||◌, eqb, ◌⊎◌, sym, refl, ap, ◌∙◌, subst, inl, inr, ⊎_elim, pow-suc, add-one, arith}
+use Rattle.std.proofs.Common.{◌≡◌, ℕ, zero, suc, ◌+◌, ◌-◌, ◌*◌, ◌/◌, ◌%◌, ◌^◌, ◌<◌, ◌≤◌, Bool, true, false, cond, not, ◌&&◌, ◌||◌, eqb, sym, refl, ap, ◌∙◌, ⊎_elim, pow-suc, add-one, arith}
 use lib.Bits.{bit_or, bit_and}
 use Rattle.std.proofs.lemmas.Nat.{mod-pow-add}
 use Rattle.std.proofs.lemmas.Bool.{ne_eqb, cases_lt}
 use Rattle.quorum.specs.Sets.{member, setOf, rest}
 use Rattle.quorum.specs.Truth.{false-unless}
-use Rattle.quorum.specs.Members.{member-or, member-and, member-bit, member-ext, member-lt, member-setOf, member-beyond, member-rest, rest_below}
+use Rattle.quorum.specs.Members.{member-or, member-and, member-bit, member-ext, member-lt, member-setOf, member-beyond}
 
 -- s is the set of the boards below n that pass p, if it has just those and none from n up
 pub setOf-is : (n s : ℕ) (p : ℕ → Bool) → ((i : ℕ) → i < n → member i s ≡ p i) → ((i : ℕ) → n ≤ i → member i s ≡ false) → setOf n p ≡ s

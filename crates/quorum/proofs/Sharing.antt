@@ -1,12 +1,12 @@
 -- What the laws of a rule give of its strong and ample sets: one lemma over a list of sets, and what follows. Assumes nothing.
-use Rattle.std.proofs.Common.{◌≡◌, ℕ, zero, suc, ◌+◌, ◌-◌, ◌^◌, ◌<◌, ◌≤◌, Bool, true, false, not, ◌&&◌, ◌||◌, leb, ◌⊎◌, List, [], ◌∷◌, length, sym, refl, ap, ◌∙◌, subst, inl, inr, ⊎_elim, pow-suc, arith, lit<}
+use Rattle.std.proofs.Common.{◌≡◌, ℕ, zero, suc, ◌+◌, ◌-◌, ◌^◌, ◌<◌, ◌≤◌, Bool, true, false, not, ◌&&◌, ◌||◌, leb, List, [], ◌∷◌, length, sym, refl, ap, ◌∙◌, ⊎_elim, pow-suc, arith, lit<}
 use Rattle.std.proofs.lemmas.Bool.{and_parts, and_from, or_parts, or_right, not-true, not-false, not_from_false, cases_Bool, and_left, le-leb, lt-leb}
 use Rattle.quorum.specs.Limits.{max-crew}
-use Rattle.quorum.specs.Sets.{member, setOf, rest, Part, in_some, inEach, allPass}
-use Rattle.quorum.specs.Rules.{Rule, Lawful, strong, ample, strongBy, ampleBy}
+use Rattle.quorum.specs.Sets.{member, rest, Part, in_some, inEach, allPass}
+use Rattle.quorum.specs.Rules.{Rule, Lawful, strong, ample}
 use Rattle.quorum.specs.Facts.{Strong-facts, Ample-facts}
 use Rattle.quorum.specs.Truth.{clash, false-since, all-or}
-use Rattle.quorum.specs.Members.{member-setOf, member_below, member-lt, member-rest, rest_below}
+use Rattle.quorum.specs.Members.{member-lt, member-rest, rest_below}
 
 below-pow : (n : ℕ) → n < 2 ^ n
 below-pow zero = lit< tt

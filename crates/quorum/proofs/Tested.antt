@@ -1,10 +1,8 @@
 -- The facts about strong and ample sets once more, for sets that are given by a test on the boards of the crew. Assumes nothing.
-use Rattle.std.proofs.Common.{◌≡◌, ℕ, ◌<◌, ◌≤◌, Bool, true, false, not, sym, refl, ap, ◌∙◌, ⊎_elim}
-use Rattle.std.proofs.lemmas.Bool.{not-false, not_from_false, cases_Bool}
+use Rattle.std.proofs.Common.{◌≡◌, ℕ, ◌<◌, ◌≤◌, Bool, true, false, not, sym, ap, ◌∙◌}
 use Rattle.quorum.specs.Limits.{max-crew}
-use Rattle.quorum.specs.Sets.{member, setOf, rest}
-use Rattle.quorum.specs.Rules.{Rule, Lawful, strong, ample, strongBy, ampleBy}
-use Rattle.quorum.specs.Truth.{clash}
+use Rattle.quorum.specs.Sets.{member, setOf}
+use Rattle.quorum.specs.Rules.{Rule, Lawful, strongBy, ampleBy}
 use Rattle.quorum.specs.Members.{member-setOf, member_below}
 use Rattle.quorum.proofs.Masks.{rest-setOf}
 use Rattle.quorum.proofs.Sharing.{ample-is, strong-outside, strong-grows, ample-meet, ample-meet-outside, ample-outside-strong, split-strong, ample-grows, outside-ample}

@@ -1,5 +1,5 @@
 -- What the laws of a rule give of its strong and ample sets, each statement of one rule and any sets. Assumes nothing.
-use Rattle.std.specs.Prelude.{◌≡◌, ℕ, ◌+◌, ◌<◌, ◌≤◌, Bool, true, false, List, length}
+use Rattle.std.specs.Prelude.{◌≡◌, ℕ, ◌+◌, ◌<◌, ◌≤◌, true, false, List, length}
 use Rattle.quorum.specs.Limits.{max-crew}
 use Rattle.quorum.specs.Sets.{member, rest, Part, in_some, inEach, allPass}
 use Rattle.quorum.specs.Rules.{Rule, strong, ample}

@@ -1,11 +1,11 @@
 -- The family of at most f boards of a crew keeps the four laws, where fewer boards than the crew has are in `cover` of its sets. Assumes nothing.
-use Rattle.std.specs.Prelude.{◌≡◌, ℕ, zero, suc, ◌+◌, ◌-◌, ◌*◌, ◌/◌, ◌%◌, ◌^◌, ◌<◌, ◌≤◌, Bool, true, false, cond, ◌&&◌, ◌||◌, List, [], ◌∷◌, length, ◌==◌, nat_le, refl}
-use Rattle.std.proofs.Common.{sym, ap, subst, ◌∙◌, ⊎_elim, zero-le, lt_of_lt_of_le, pow-suc, suc-mul, arith, pow_pos}
+use Rattle.std.specs.Prelude.{◌≡◌, ℕ, zero, suc, ◌+◌, ◌*◌, ◌/◌, ◌%◌, ◌^◌, ◌<◌, ◌≤◌, Bool, true, ◌||◌, List, [], ◌∷◌, length, ◌==◌, nat_le, refl}
+use Rattle.std.proofs.Common.{sym, ap, ◌∙◌, ⊎_elim, zero-le, suc-mul, arith, pow_pos}
 use Rattle.std.proofs.Math.Arith.{bin_ind}
 use Rattle.std.specs.Int.Count.{ones, ones_step}
 use Rattle.std.proofs.lemmas.Bool.{false≢true, leb-true, ltb-true, le-leb, lt-ltb, and_parts, and_from, or_cases, eqb-true}
 use Rattle.quorum.specs.Sets.{member, Part, in_some, inCrew, allPass}
-use Rattle.quorum.specs.Rules.{Rule, Lawful}
+use Rattle.quorum.specs.Rules.{Lawful}
 use Rattle.quorum.specs.Counting.{few, count-rule}
 use Rattle.quorum.specs.Members.{member-lt}
 

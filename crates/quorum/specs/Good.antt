@@ -1,6 +1,5 @@
 -- What is known of the numbers that nothing stands against: their sizes, and that the rule of them keeps the laws. Assumes nothing.
-use Rattle.std.specs.Prelude.{◌≡◌, ℕ, ◌*◌, ◌<◌, ◌≤◌, Bool, true, false, cond, List, length, is_some, Some, None, Option, nat_le, nat_lt, refl}
-use Rattle.std.proofs.Common.{ap}
+use Rattle.std.specs.Prelude.{◌≡◌, ℕ, ◌*◌, ◌≤◌, Bool, true, false, cond, List, length, is_some, Some, None, Option, nat_le, nat_lt, refl}
 use Rattle.std.proofs.lemmas.Bool.{true≢false, and_parts, leb-true, ltb-true}
 use Rattle.quorum.specs.declared.fault.RuleFault.{RuleFault}
 use Rattle.quorum.specs.declared.fault.RuleFault.TheVariants.{Crew, Cover, Sets, WholeCrew}

@@ -1,11 +1,11 @@
 -- The family of the parts of listed sets keeps the four laws, where no `cover` listed sets hold the whole crew. Assumes nothing.
-use Rattle.std.specs.Prelude.{◌≡◌, ℕ, zero, suc, ◌-◌, ◌^◌, ◌<◌, ◌≤◌, Bool, true, false, not, ◌&&◌, ◌||◌, ◌⊎◌, List, [], ◌∷◌, length, ◌==◌, ◌≢◌, bit_or, refl}
+use Rattle.std.specs.Prelude.{◌≡◌, ℕ, zero, suc, ◌-◌, ◌^◌, ◌<◌, Bool, true, false, not, ◌||◌, List, [], ◌∷◌, length, ◌==◌, ◌≢◌, bit_or, refl}
 use Rattle.std.proofs.Math.Path.{sym, ap}
-use Rattle.std.proofs.Common.{subst, ◌∙◌, inl, inr, ⊎_elim, not-suc-le-zero}
+use Rattle.std.proofs.Common.{◌∙◌, ⊎_elim}
 use native.Mathlib.Omega.{arith}
-use Rattle.std.proofs.lemmas.Bool.{false≢true, eqb-true, eq-eqb, ne_eqb, ltb-true, and_parts, or_cases, or_parts, or_left, or_right, or_from, not-true, cases_Bool, cases_lt}
-use Rattle.quorum.specs.Sets.{member, rest, Part, part, inCrew, whole, in_some, anyPasses, allPass}
-use Rattle.quorum.specs.Rules.{Rule, Lawful}
+use Rattle.std.proofs.lemmas.Bool.{false≢true, eqb-true, eq-eqb, ne_eqb, ltb-true, and_parts, or_cases, or_parts, or_left, or_right, not-true}
+use Rattle.quorum.specs.Sets.{member, rest, part, inCrew, whole, in_some, anyPasses, allPass}
+use Rattle.quorum.specs.Rules.{Lawful}
 use Rattle.quorum.specs.Listing.{listed, listed-rule, held}
 use Rattle.quorum.specs.Truth.{clash, false-since, false-unless, any_found, any-weaker, none_pass}
 use Rattle.quorum.specs.Members.{member-none, member-lt, member-or, member-ext, member-rest, rest_below, part-found, part-from}

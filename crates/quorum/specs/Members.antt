@@ -1,13 +1,13 @@
 -- The members of a set that is given as a number: of a union, a single board, a test's set, the rest of a crew. Assumes nothing.
-use Rattle.std.specs.Prelude.{◌≡◌, ℕ, zero, suc, ◌+◌, ◌*◌, ◌/◌, ◌%◌, ◌^◌, ◌<◌, ◌≤◌, max, Bool, true, false, cond, not, ◌&&◌, ◌||◌, ◌⊎◌, ◌==◌, bit_and, bit_or, nat_eq, refl}
-use Rattle.std.proofs.Common.{sym, ap, subst, ◌∙◌, inl, inr, ⊎_elim, pow-suc, div-one, le_of_suc-le-suc, not-suc-le-zero, arith}
+use Rattle.std.specs.Prelude.{◌≡◌, ℕ, zero, suc, ◌+◌, ◌*◌, ◌/◌, ◌%◌, ◌^◌, ◌<◌, ◌≤◌, max, Bool, true, false, cond, not, ◌&&◌, ◌||◌, ◌==◌, bit_and, bit_or, nat_eq, refl}
+use Rattle.std.proofs.Common.{sym, ap, subst, ◌∙◌, pow-suc, div-one, le_of_suc-le-suc, not-suc-le-zero, arith}
 use Rattle.std.proofs.Math.Nat.{div-div-eq-div-mul}
 use Rattle.std.proofs.Math.Arith.{bin_ind}
 use Rattle.std.specs.Int.Bits.{or_step, and_step}
 use Rattle.std.proofs.Math.Dec.{eqb-suc-suc, eqb-zero-suc, eqb-suc-zero}
-use Rattle.std.proofs.lemmas.Bool.{eq-eqb, ne_eqb, eqb-true, cases_lt, or_left, or_cases}
+use Rattle.std.proofs.lemmas.Bool.{eq-eqb, ne_eqb, eqb-true, or_left}
 use Rattle.quorum.specs.Sets.{member, setOf, rest, Part, part}
-use Rattle.quorum.specs.Truth.{clash, false-unless, same_truth}
+use Rattle.quorum.specs.Truth.{clash, false-unless}
 
 -- ---- a member, by the number's bits
 pub member_is : (i s : ℕ) → member i s ≡ ((s / 2 ^ i) % 2 == 1)

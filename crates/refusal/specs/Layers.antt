@@ -1,5 +1,5 @@
 -- Which layer gives a refusal, by its number. Assumes nothing.
-use Rattle.std.specs.Prelude.{Bool, cond, ◌&&◌, ◌||◌, ℕ, leb, eqb}
+use Rattle.std.specs.Prelude.{cond, ◌&&◌, ◌||◌, ℕ, leb, eqb}
 use Rattle.refusal.specs.declared.Layer.{Layer}
 use Rattle.refusal.specs.declared.Layer.TheVariants.{Frame, Board, Group}
 

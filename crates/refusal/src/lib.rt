@@ -2,6 +2,7 @@
 // Every crate above turns its own faults into a `Refusal`; which faults there are is theirs to say.
 
 #![tactic(auto)]
+
 ghost use Rattle.std.specs.Prelude.{◌≡◌};
 ghost use Rattle.refusal.specs.Layers.{layer-of};
 

@@ -1,5 +1,5 @@
 -- What the lines of the input say: numbers, a rule that is asked for. Assumes nothing.
-use Rattle.std.specs.Prelude.{ℕ, suc, ◌+◌, ◌-◌, ◌*◌, Bool, true, false, cond, ◌&&◌, List, [], ◌∷◌, ◌++◌, length, drop, Some, None, Option, ◌==◌, nat_le, nat_lt, slice_index}
+use Rattle.std.specs.Prelude.{ℕ, suc, ◌+◌, ◌-◌, ◌*◌, Bool, cond, ◌&&◌, List, [], ◌∷◌, ◌++◌, length, drop, Some, None, Option, ◌==◌, nat_le, nat_lt, slice_index}
 use Rattle.quorum.specs.Asked.{Asked, counting, listing}
 
 -- the bytes with a meaning: a comma, the digits from zero to nine, the letters of the two kinds of rule, a line feed

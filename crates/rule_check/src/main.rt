@@ -4,6 +4,7 @@
 // in the modules; here is only what no contract can speak of: the input is read, and a line is printed for each answer.
 
 #![tactic(auto)]
+
 mod answer;
 mod lines;
 mod number;

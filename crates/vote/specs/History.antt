@@ -1,5 +1,5 @@
 -- What a board has counted, and what it remembers of it. A history is the list of the votes counted, the newest first. Assumes nothing.
-use Rattle.std.specs.Prelude.{ℕ, Bool, true, false, ◌&&◌, ◌||◌, List, [], ◌∷◌, Some, None, Option, ◌==◌}
+use Rattle.std.specs.Prelude.{ℕ, Bool, false, ◌&&◌, ◌||◌, List, [], ◌∷◌, None, Option, ◌==◌}
 use Rattle.vote.specs.declared.Vote.{Vote}
 use Rattle.vote.specs.Search.{or_else, when, given, is}
 

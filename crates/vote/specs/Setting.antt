@@ -1,5 +1,5 @@
 -- What is settled before a vote begins, and what the votes of a method come to. Assumes nothing.
-use Rattle.std.specs.Prelude.{ℕ, zero, suc, Bool, List, Some, None, Option}
+use Rattle.std.specs.Prelude.{ℕ, zero, suc, Bool, List, Option}
 use Rattle.quorum.specs.Rules.{Rule}
 use Rattle.vote.specs.declared.Decision.{Decision}
 use Rattle.vote.specs.declared.Depth.{Depth}

@@ -1,13 +1,12 @@
 -- How many words there are, by the ones of their sets, and how many bytes their frames have. Assumes nothing.
-use Rattle.std.proofs.Common.{◌≡◌, ℕ, zero, suc, ◌+◌, ◌-◌, ◌*◌, ◌/◌, ◌%◌, ◌^◌, ◌<◌, ◌≤◌, Bool, true, false, cond, eqb, List, [], ◌∷◌, ◌++◌, length, get_or, decimal, sym, refl, ap, ◌∙◌, ap₂, ⊎_elim, one-mul, zero-mul, add-one, one-add, arith, lit<}
+use Rattle.std.proofs.Common.{◌≡◌, ℕ, zero, suc, ◌+◌, ◌-◌, ◌*◌, ◌/◌, ◌%◌, ◌^◌, ◌<◌, ◌≤◌, Bool, true, false, cond, eqb, [], ◌∷◌, length, get_or, decimal, sym, refl, ap, ◌∙◌, ap₂, one-mul, zero-mul, add-one, one-add, arith, lit<}
 use lib.Count.{ones, ones_step, ones_cat}
 use Rattle.std.specs.List.{flat_map}
 use Rattle.std.proofs.lemmas.Nat.{mod-pow-add, mod_below, pow_pos, ones-le}
 use Rattle.std.proofs.lemmas.List.{length-append, length_push, append-nil}
-use Rattle.std.proofs.lemmas.Bool.{cond-true, cond-false, cases_Bool, eqb-true, eqb-false}
 use Rattle.wire.specs.declared.posted.Posted.{Posted}
 use Rattle.wire.specs.declared.word.Word.{Word}
-use Rattle.wire.specs.Frames.{frame-of, field-bytes}
+use Rattle.wire.specs.Frames.{frame-of}
 use Rattle.wire.specs.Limits.{comma, line-feed}
 use Rattle.wire.specs.Slips.{has, in_order, word_of, holds, if-held, words-of-kind, words_of, frames-of}
 use Rattle.wire.proofs.FrameText.{frame-length}

@@ -1,11 +1,10 @@
 -- A field holds a number just where its bytes are the number in base ten. Assumes nothing.
-use Rattle.std.proofs.Common.{◌≡◌, ℕ, zero, suc, ◌+◌, ◌-◌, ◌*◌, ◌^◌, ◌<◌, ◌≤◌, Bool, true, false, cond, ◌&&◌, eqb, leb, ◌⊎◌, List, [], ◌∷◌, ◌++◌, length, get_or, take, drop, Ok, Err, decimal, fold, Result, sym, refl, ap, ◌∙◌, subst, ap₂, inl, inr, ⊎_elim, one-add, arith, lit<, rules}
-use Rattle.std.specs.List.{prefix_len}
+use Rattle.std.proofs.Common.{◌≡◌, ℕ, suc, ◌+◌, ◌-◌, ◌*◌, ◌^◌, ◌<◌, ◌≤◌, true, false, eqb, leb, List, [], ◌∷◌, ◌++◌, length, get_or, take, drop, Ok, decimal, fold, sym, refl, ap, ◌∙◌, ap₂, ⊎_elim, one-add, arith, lit<, rules}
 use Rattle.std.specs.Str.{all_ascii_digits}
 use Rattle.std.proofs.lemmas.Fmt.{decimal_nonempty, decimal_digit, first_decimal, digits_decimal, digits_value-decimal, decimal-digits_value}
 use Rattle.std.proofs.lemmas.Str.Parse.{IsNumeralModel, numerals_by_fold, tells_all_ascii_digits}
 use Rattle.std.proofs.lemmas.List.{length-take-le, take_at, get_or-take, get_or_append_left, take-append-drop, drop-drop}
-use Rattle.std.proofs.lemmas.Bool.{cond_both, and_cases, and_from, and_parts, and_left, and_right, cond-true, cond-false, cases_Bool, cases_eq, eqb-true, eqb-false, eq-eqb, ne_eqb, leb-true, le-leb, both_ways}
+use Rattle.std.proofs.lemmas.Bool.{cond_both, and_cases, and_from, and_parts, and_left, and_right, cond-true, cond-false, cases_Bool, cases_eq, eqb-false, eq-eqb, ne_eqb, leb-true, le-leb, both_ways}
 use Rattle.std.proofs.lemmas.List.Sums.{prefix_len-le-length}
 use Rattle.wire.specs.Fields.{is_digit, run, value_of, number, zero-leads, is_within, field_at}
 use Rattle.wire.proofs.Outcomes.{ok-unless, ok-when}

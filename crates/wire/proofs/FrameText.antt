@@ -1,5 +1,5 @@
 -- A frame carries a word just where its bytes are the word's own, and it is short. Assumes nothing.
-use Rattle.std.proofs.Common.{◌≡◌, ℕ, suc, ◌+◌, ◌-◌, ◌^◌, ◌<◌, ◌≤◌, Bool, true, false, cond, ◌&&◌, eqb, ltb, leb, List, [], ◌∷◌, ◌++◌, length, get_or, take, drop, IfOk, Ok, Err, decimal, Result, sym, refl, ap, ◌∙◌, subst, ap₂, add-zero, add_assoc, zero-add, arith, lit<}
+use Rattle.std.proofs.Common.{◌≡◌, ℕ, ◌+◌, ◌^◌, ◌<◌, ◌≤◌, Bool, true, false, ◌&&◌, eqb, ltb, leb, List, [], ◌∷◌, ◌++◌, length, get_or, drop, IfOk, Ok, Err, decimal, Result, sym, refl, ap, ◌∙◌, subst, ap₂, add-zero, zero-add, arith, lit<}
 use Rattle.std.proofs.lemmas.Fmt.{length-decimal-le}
 use Rattle.std.proofs.lemmas.List.{append_assoc, append-nil, length-append, length_push, length-drop, drop-drop, drop_at, drop_more, drop_all, get_or-drop}
 use Rattle.std.proofs.lemmas.Bool.{cond-true, and_from, and_parts, ltb-true, lt-ltb, leb-true, le-leb, eqb-true, eq-eqb}
@@ -8,7 +8,7 @@ use Rattle.wire.specs.declared.word.Word.{Word}
 use Rattle.wire.specs.Fields.{is_digit, is_within, stands, and_then, field_at, after-byte}
 use Rattle.wire.specs.Frames.{field-bytes, frame-of, ended-field, frame_at, word_in, carried}
 use Rattle.wire.specs.Limits.{max-id, max-sender, max-kind, max-value, frame-max, comma, line-feed}
-use Rattle.wire.proofs.Outcomes.{ok-unless, ok-when, ok-then, ok_same}
+use Rattle.wire.proofs.Outcomes.{ok-when, ok-then, ok_same}
 use Rattle.wire.proofs.FieldText.{field-reads, field_is}
 
 module _ (xs : List ℕ) (q b : ℕ) where

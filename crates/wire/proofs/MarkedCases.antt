@@ -1,5 +1,5 @@
 -- The marked frames have their answers: one computed equation over the whole table, and its rule at each entry. Assumes nothing.
-use Rattle.std.proofs.Common.{◌≡◌, ℕ, ◌<◌, List, [], ◌∷◌, map, length, get_or, sym, refl, ap, ◌∙◌}
+use Rattle.std.proofs.Common.{◌≡◌, ℕ, List, [], map, length, get_or, sym, refl, ap, ◌∙◌}
 use Rattle.std.proofs.lemmas.List.{get_or-map}
 use Rattle.wire.specs.Fields.{field_at}
 use Rattle.wire.specs.Frames.{ended-field, word_in}

@@ -1,11 +1,10 @@
 -- The first number of a word that no frame can carry. Assumes nothing.
-use Rattle.std.proofs.Common.{◌≡◌, ℕ, Bool, true, false, cond, List, [], ◌∷◌, Some, None, Option, sym, refl, ap, ◌∙◌, arith}
+use Rattle.std.proofs.Common.{◌≡◌, ℕ, Bool, true, false, cond, [], ◌∷◌, Some, None, Option, sym, refl, ap, ◌∙◌, arith}
 use Rattle.std.proofs.lemmas.Bool.{cond-true, cond-false}
 use Rattle.wire.specs.declared.fault.FrameFault.{FrameFault}
 use Rattle.wire.specs.declared.word.Word.{Word}
 use Rattle.wire.specs.Faults.{fault}
 use Rattle.wire.specs.Fields.{is_within}
-use Rattle.wire.specs.Frames.{carried}
 use Rattle.wire.specs.Limits.{max-id, max-sender, max-kind, max-value}
 use Rattle.wire.specs.Writes.{change-place, sender-place, kind-place, value-place, first-failed, range-fault}
 use Rattle.wire.proofs.FrameText.{Ranges, within-parts, within-from}

@@ -1,5 +1,5 @@
 -- What a slip holds after a word is posted and after it is written. Assumes nothing.
-use Rattle.std.proofs.Common.{◌≡◌, ℕ, zero, suc, ◌+◌, ◌-◌, ◌*◌, ◌/◌, ◌%◌, ◌^◌, ◌<◌, ◌≤◌, max, Bool, true, false, cond, ◌&&◌, ◌||◌, eqb, ◌≢◌, ◌⊎◌, List, [], ◌∷◌, length, get_or, set, IfOk, Some, None, Ok, Err, Option, Result, sym, refl, ap, ◌∙◌, ap₂, inl, inr, ⊎_elim, mul-le-mul_left, one-mul, arith, lit≤}
+use Rattle.std.proofs.Common.{◌≡◌, ℕ, ◌+◌, ◌-◌, ◌*◌, ◌/◌, ◌%◌, ◌^◌, ◌<◌, ◌≤◌, max, Bool, true, false, ◌&&◌, ◌||◌, eqb, [], length, get_or, set, IfOk, Some, None, Ok, Err, Option, Result, sym, refl, ap, ◌∙◌, ap₂, ⊎_elim, mul-le-mul_left, one-mul, arith, lit≤}
 use native.Mathlib.Nat.{div-eq_of_lt}
 use lib.Bits.{bit_or, or_step}
 use Rattle.std.proofs.lemmas.Nat.{or_shr, pow_below, shl-shr, pow-add}
@@ -10,7 +10,7 @@ use Rattle.wire.specs.declared.slip.Slip.{Slip}
 use Rattle.wire.specs.declared.posted.Posted.{Posted}
 use Rattle.wire.specs.declared.word.Word.{Word}
 use Rattle.wire.specs.Frames.{carried}
-use Rattle.wire.specs.Slips.{has, holds, in_order, if-held, word_of, words-of-kind, words_of, none-posted, with-word, One-more, Reads-back, frames-of, addressed, mapped}
+use Rattle.wire.specs.Slips.{has, holds, word_of, words-of-kind, words_of, none-posted, with-word, One-more, Reads-back, frames-of, addressed, mapped}
 use Rattle.wire.specs.Writes.{range-fault, unless}
 use Rattle.wire.proofs.Outcomes.{ok_same, ok-not-err}
 use Rattle.wire.specs.Limits.{max-kind, max-value, frame-max}

@@ -1,5 +1,5 @@
 -- What each fault of a frame tells: its number and place. Assumes nothing.
-use Rattle.std.specs.Prelude.{ℕ, Bool, cond, Some, None, Option, ◌==◌}
+use Rattle.std.specs.Prelude.{ℕ, cond, Some, None, Option, ◌==◌}
 use Rattle.refusal.specs.declared.Refusal.{Refusal}
 use Rattle.wire.specs.declared.fault.FrameFault.{FrameFault}
 use Rattle.wire.specs.declared.fault.FrameFault.TheVariants.{NoDigit, LeadingZero, OutOfRange, WrongByte, Trailing, ShortBuffer}

@@ -1,6 +1,7 @@
 // Stories about the wire, each proved and then run. They stand apart from the crate so that it is proved once.
 
 #![tactic(auto)]
+
 #[cfg(test)]
 mod tests {
     use refusal::{Layer, Refusal};
@@ -30,8 +31,8 @@ mod tests {
         assert_eq!(rt; write_word(LONGEST, &mut buf)?, FRAME_MAX);
         assert_eq!(rt; read_frame(&buf[0..19])?, LONGEST);
         assert_eq!(rt; write_word(SHORTEST, &mut buf)?, 10);
-        assert_eq!(rt; &buf[0..10], b"1,1,0,1,3\n");
-        assert_eq!(rt; &buf[10..24], &[0u8; 14]);
+        assert_eq!(rt; &buf[0..10], b"1,1,0,1,3\n".as_slice());
+        assert_eq!(rt; &buf[10..24], [0u8; 14].as_slice());
         assert_eq!(rt; read_frame(&buf[0..10])?, SHORTEST);
         Ok(())
     }
@@ -51,7 +52,7 @@ mod tests {
             write_word(SHORTEST, &mut buf),
             Err(FrameFault::ShortBuffer)
         );
-        assert_eq!(rt; &buf[0..9], b"#########");
+        assert_eq!(rt; &buf[0..9], b"#########".as_slice());
     }
 
     #[test]
@@ -62,7 +63,7 @@ mod tests {
             ..SHORTEST
         };
         assert_eq!(rt; write_word(word, &mut buf), Err(FrameFault::OutOfRange(4)));
-        assert_eq!(rt; &buf[0..3], b"###");
+        assert_eq!(rt; &buf[0..3], b"###".as_slice());
     }
 
     #[test]
@@ -100,8 +101,11 @@ mod tests {
         assert_eq!(rt; count, 3);
         assert_eq!(rt; left, 0);
         assert_eq!(rt; len, 30);
-        assert_eq!(rt; &buf[0..30], b"1,7,2,1,2\n1,7,2,1,4\n1,7,2,5,0\n");
-        assert_eq!(rt; &buf[30..60], &[0u8; 30]);
+        assert_eq!(rt;
+            &buf[0..30],
+            b"1,7,2,1,2\n1,7,2,1,4\n1,7,2,5,0\n".as_slice()
+        );
+        assert_eq!(rt; &buf[30..60], [0u8; 30].as_slice());
         Ok(())
     }
 
@@ -117,7 +121,7 @@ mod tests {
         let Ok(len) = written else { unreachable() };
         posted?;
         assert_eq!(rt; refused, Err(FrameFault::ShortBuffer));
-        assert_eq!(rt; &short[0..9], b"#########");
+        assert_eq!(rt; &short[0..9], b"#########".as_slice());
         assert_eq!(rt; count, 1);
         assert_eq!(rt; len, 10);
         Ok(())

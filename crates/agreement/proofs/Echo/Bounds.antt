@@ -1,10 +1,10 @@
 -- The words that a board of the echo method posts are of the kinds 1 to 5, with values up to the last character. Assumes nothing.
-use Rattle.std.proofs.Common.{◌≡◌, ℕ, zero, suc, ◌<◌, ◌≤◌, Bool, true, false, cond, eqb, leb, ◌⊎◌, List, Some, None, refl, inl, inr, ⊎_elim, arith}
+use Rattle.std.proofs.Common.{◌≡◌, ℕ, zero, suc, ◌<◌, ◌≤◌, Bool, true, false, cond, eqb, leb, List, Some, refl, ⊎_elim, arith}
 use Rattle.std.proofs.lemmas.Bool.{eqb-true, leb-true, and_parts, or_cases}
 use Rattle.vote.specs.declared.Depth.{Depth}
 use Rattle.vote.specs.declared.Depth.TheVariants.{One, Two}
 use Rattle.vote.specs.declared.Vote.{Vote}
-use Rattle.vote.specs.History.{Seen, seen, memo}
+use Rattle.vote.specs.History.{Seen, seen}
 use Rattle.vote.specs.Search.{or_else, when, is}
 use Rattle.vote.specs.Setting.{Setting, lowest}
 use Rattle.vote.proofs.Options.{holds-none, is_found, else-cases, when-found}

@@ -1,5 +1,5 @@
 -- The echo method: decisions are at most one step apart, and the first one binds. Assumes nothing.
-use Rattle.std.proofs.Common.{◌≡◌, ℕ, ◌<◌, ◌≤◌, Bool, true, false, eqb, ◌≢◌, ◌⊎◌, List, ◌++◌, Some, sym, refl, ◌∙◌, subst, inl, inr, ⊎_elim}
+use Rattle.std.proofs.Common.{◌≡◌, ℕ, ◌≤◌, ◌≢◌, List, ◌++◌, Some, sym, refl, ◌∙◌, subst, inl, inr, ⊎_elim}
 use Rattle.vote.specs.declared.Decision.{Decision}
 use Rattle.vote.specs.declared.Depth.{Depth}
 use Rattle.vote.specs.declared.Depth.TheVariants.{One, Two}
@@ -7,11 +7,11 @@ use Rattle.vote.specs.declared.Vote.{Vote}
 use Rattle.vote.specs.History.{seen, says, speaks}
 use Rattle.vote.specs.Setting.{Setting}
 use Rattle.vote.proofs.Options.{given-found, holds-one}
-use Rattle.agreement.specs.Runs.{Event, history, decision, Crew, Steady, Legal}
+use Rattle.agreement.specs.Runs.{Event, history, decision, Crew, Legal}
 use Rattle.agreement.specs.Decisions.{At-most-one-step}
 use Rattle.agreement.specs.Echo.{said, echo}
 use Rattle.agreement.specs.Promises.{Decided-on, Binds-whatever-starts}
-use Rattle.agreement.proofs.Steadies.{Strong, Ample, strong-steady, meet}
+use Rattle.agreement.proofs.Steadies.{Ample, strong-steady, meet}
 use Rattle.agreement.proofs.Steps.{both-none, one-character}
 use Rattle.agreement.proofs.Echo.Sound.{Justified, third-sound, fourth-sound, fifth-sound, decided-sound}
 use Rattle.agreement.proofs.Echo.Echoes.{said-later}

@@ -1,13 +1,12 @@
 -- One board of the echo method that has counted anything: each test that holds now has been acted on. Assumes nothing.
-use Rattle.std.proofs.Common.{◌≡◌, ℕ, zero, suc, ◌<◌, ◌≤◌, Bool, true, false, cond, not, ◌&&◌, ◌||◌, eqb, leb, ◌≢◌, ◌⊎◌, List, Some, None, Option, sym, refl, subst, inl, inr, ⊎_elim}
+use Rattle.std.proofs.Common.{◌≡◌, ℕ, ◌<◌, ◌≤◌, Bool, true, false, cond, not, ◌&&◌, eqb, ◌≢◌, ◌⊎◌, List, Some, None, Option, sym, refl, subst, inl, inr, ⊎_elim}
 use Rattle.std.proofs.lemmas.Bool.{eq-eqb, ne_eqb, le-leb, and_from, or_left, or_right, not_from_false}
 use Rattle.quorum.specs.Rules.{strongBy, ampleBy}
-use Rattle.vote.specs.declared.Decision.{Decision}
 use Rattle.vote.specs.declared.Depth.{Depth}
 use Rattle.vote.specs.declared.Depth.TheVariants.{One, Two}
 use Rattle.vote.specs.declared.Vote.{Vote}
-use Rattle.vote.specs.History.{counted, seen, says, speaks, memo, ever}
-use Rattle.vote.specs.Search.{or_else, when, given, seek}
+use Rattle.vote.specs.History.{counted, seen, says, speaks, memo}
+use Rattle.vote.specs.Search.{when, given}
 use Rattle.vote.specs.Setting.{Setting, lowest}
 use Rattle.vote.proofs.Options.{else-left, else-right, when-from}
 use Rattle.vote.proofs.Seeking.{seek-from}

@@ -1,18 +1,17 @@
 -- The echo method in runs: what a steady board is heard to say it has said, and every echo of a steady board lies in the span. Assumes nothing.
-use Rattle.std.proofs.Common.{◌≡◌, ℕ, ◌<◌, ◌≤◌, Bool, true, false, cond, not, ◌&&◌, ◌||◌, eqb, leb, ◌≢◌, ◌⊎◌, List, [], ◌∷◌, ◌++◌, Some, None, Option, sym, refl, ap, ◌∙◌, subst, inl, inr, ⊎_elim, arith}
+use Rattle.std.proofs.Common.{◌≡◌, ℕ, ◌≤◌, Bool, true, false, cond, eqb, leb, ◌≢◌, List, [], ◌∷◌, ◌++◌, Some, None, Option, sym, refl, ap, ◌∙◌, subst, inl, inr, ⊎_elim, arith}
 use Rattle.std.proofs.lemmas.Bool.{false≢true, eqb-true, eqb-false, and_parts, and_from, or_cases, or_left, or_right, not-true}
-use Rattle.quorum.specs.Truth.{clash}
 use Rattle.vote.specs.declared.Vote.{Vote}
-use Rattle.vote.specs.History.{counted, first, seen, ever}
-use Rattle.vote.specs.Search.{is, given}
+use Rattle.vote.specs.History.{counted, seen, ever}
+use Rattle.vote.specs.Search.{given}
 use Rattle.vote.specs.Setting.{Setting}
-use Rattle.vote.proofs.Options.{given-found, is_found, is-from, holds-one}
+use Rattle.vote.proofs.Options.{given-found, is_found, is-from}
 use Rattle.vote.proofs.Memories.{memo-more, ever_more}
 use Rattle.vote.proofs.Counting.{first_counted}
 use Rattle.agreement.specs.Runs.{Event, starts, counts, start_of, history, posted, Crew, Steady, Legal}
 use Rattle.agreement.specs.Echo.{other, echoes, said, echoed, posts, echo}
 use Rattle.agreement.proofs.Steadies.{strong-steady}
-use Rattle.agreement.proofs.Running.{grow, later, start-more, start-later, posted-found, start_fits, counter-started, Grows, Sends, sends-one, sends}
+use Rattle.agreement.proofs.Running.{later, start-more, posted-found, start_fits, Grows, Sends, sends-one, sends}
 use Rattle.agreement.proofs.Echo.Tests.{Echoing, echoes-found}
 
 cond_map : (b a a' d d' : Bool) → (a ≡ true → a' ≡ true) → (d ≡ true → d' ≡ true) → cond b a d ≡ true → cond b a' d' ≡ true

@@ -1,5 +1,5 @@
 -- One run of the echo method: what is heard of steady boards, and two ample words of one kind are equal. Assumes nothing.
-use Rattle.std.proofs.Common.{◌≡◌, ℕ, ◌<◌, ◌≤◌, Bool, true, false, eqb, ◌≢◌, ◌⊎◌, List, Some, refl, inl, inr}
+use Rattle.std.proofs.Common.{◌≡◌, ℕ, ◌≤◌, true, false, eqb, ◌≢◌, List, Some, inl, inr}
 use Rattle.quorum.proofs.Tested.{ampleBy-grows}
 use Rattle.vote.specs.declared.Vote.{Vote}
 use Rattle.vote.specs.History.{counted, seen, says, speaks}
@@ -7,9 +7,9 @@ use Rattle.vote.specs.Search.{given}
 use Rattle.vote.specs.Setting.{Setting}
 use Rattle.vote.proofs.Options.{given-found, given-from, is_found, is-from, holds-one}
 use Rattle.vote.proofs.Counting.{first_counted}
-use Rattle.agreement.specs.Runs.{Event, start_of, history, posted, Crew, Steady, Legal}
+use Rattle.agreement.specs.Runs.{Event, start_of, history, Crew, Steady, Legal}
 use Rattle.agreement.specs.Echo.{said, echoed, echo}
-use Rattle.agreement.proofs.Steadies.{Strong, Ample, meet}
+use Rattle.agreement.proofs.Steadies.{Ample, meet}
 use Rattle.agreement.proofs.Running.{posted-found, counter-started, sends}
 use Rattle.agreement.proofs.Echo.Sound.{Third, Passed}
 use Rattle.agreement.proofs.Echo.Echoes.{echo-grows, posts-echo, posted-said}

@@ -1,5 +1,5 @@
 -- The runs of the echo method that are written out happen: the checker computes them. Assumes nothing.
-use Rattle.std.proofs.Common.{◌≡◌, ℕ, true, List, reverse, Some, refl, arith}
+use Rattle.std.proofs.Common.{refl, arith}
 use lib.Count.{ones, ones_in}
 use Rattle.quorum.specs.Sets.{member, setOf, rest}
 use Rattle.quorum.specs.Rules.{strong, ample}
@@ -9,8 +9,8 @@ use Rattle.vote.specs.declared.Depth.TheVariants.{One, Two}
 use Rattle.vote.specs.History.{counted, first, memo, ever}
 use Rattle.vote.specs.Search.{seek}
 use Rattle.vote.specs.Setting.{lowest, decision-on}
-use Rattle.agreement.specs.Runs.{Event, start_of, history, posted, decision, Crew}
-use Rattle.agreement.specs.Echo.{approved, two-approved, mixed, parted, echoes, second, third, outcome, fifth, found, backed, verdict, said, echoed, posts, decided, echo}
+use Rattle.agreement.specs.Runs.{start_of, history, posted, decision, Crew}
+use Rattle.agreement.specs.Echo.{approved, two-approved, mixed, parted, echoes, second, third, outcome, fifth, found, backed, verdict, said, echoed, posts, decided}
 use Rattle.agreement.specs.Echo.Played.{setting, one-character, one_none, two-character, two-half, two_none, play, Echo-runs-happen}
 use Rattle.agreement.proofs.Playing.{legal, happens}
 

@@ -1,5 +1,5 @@
 -- The echo method keeps the promise in every run of a crew whose rule has cover 3. Assumes nothing.
-use Rattle.std.proofs.Common.{◌≤◌, List, ◌++◌}
+use Rattle.std.proofs.Common.{◌≤◌, List}
 use Rattle.vote.specs.Setting.{Setting}
 use Rattle.agreement.specs.Echo.{echo}
 use Rattle.agreement.specs.Promises.{Promise}

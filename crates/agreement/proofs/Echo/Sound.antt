@@ -1,13 +1,13 @@
 -- One board of the echo method: whatever it remembers is justified by what it has counted by now. Assumes nothing.
-use Rattle.std.proofs.Common.{◌≡◌, ℕ, zero, suc, ◌<◌, ◌≤◌, Bool, true, false, cond, not, ◌&&◌, eqb, ◌≢◌, ◌⊎◌, List, ◌∷◌, Some, None, Option, sym, refl, ap, inl, inr, ⊎_elim, arith}
+use Rattle.std.proofs.Common.{◌≡◌, ℕ, zero, suc, Bool, true, false, cond, not, ◌&&◌, eqb, ◌≢◌, ◌⊎◌, List, ◌∷◌, Some, None, Option, sym, refl, ap, inl, inr, ⊎_elim, arith}
 use Rattle.std.proofs.lemmas.Bool.{eqb-false, and_parts, not-true}
-use Rattle.quorum.specs.Rules.{Lawful, strongBy, ampleBy}
+use Rattle.quorum.specs.Rules.{Lawful, ampleBy}
 use Rattle.vote.specs.declared.Decision.{Decision}
 use Rattle.vote.specs.declared.Depth.{Depth}
 use Rattle.vote.specs.declared.Depth.TheVariants.{One, Two}
 use Rattle.vote.specs.declared.Vote.{Vote}
-use Rattle.vote.specs.History.{counted, seen, says, speaks, memo}
-use Rattle.vote.specs.Search.{or_else, when, given, some_below}
+use Rattle.vote.specs.History.{seen, says, speaks}
+use Rattle.vote.specs.Search.{when, some_below}
 use Rattle.vote.specs.Setting.{Setting, decision-on, lowest}
 use Rattle.vote.proofs.Options.{holds-one, holds-none, else-cases, when-found}
 use Rattle.vote.proofs.Memories.{memo-sound}

@@ -1,18 +1,18 @@
 -- The echo method: every word and every decision of a steady board lies in the span of those that have started. Assumes nothing.
-use Rattle.std.proofs.Common.{◌≡◌, ℕ, ◌<◌, ◌≤◌, Bool, true, false, eqb, ◌≢◌, ◌⊎◌, List, Some, sym, refl, ◌∙◌, subst, inl, inr, ⊎_elim, arith}
+use Rattle.std.proofs.Common.{◌≡◌, ℕ, ◌≤◌, true, false, eqb, ◌≢◌, ◌⊎◌, List, Some, sym, refl, ◌∙◌, subst, inl, inr, ⊎_elim, arith}
 use Rattle.vote.specs.declared.Decision.{Decision}
 use Rattle.vote.specs.declared.Depth.{Depth}
 use Rattle.vote.specs.declared.Depth.TheVariants.{One, Two}
 use Rattle.vote.specs.declared.Vote.{Vote}
-use Rattle.vote.specs.History.{seen, says, speaks}
+use Rattle.vote.specs.History.{seen, says}
 use Rattle.vote.specs.Search.{given}
 use Rattle.vote.specs.Setting.{Setting, grades}
 use Rattle.vote.proofs.Options.{given-found}
 use Rattle.agreement.specs.Runs.{Event, start_of, history, decision, Crew, Steady, Legal}
 use Rattle.agreement.specs.Decisions.{None-decided}
-use Rattle.agreement.specs.Echo.{echo, decided}
+use Rattle.agreement.specs.Echo.{echo}
 use Rattle.agreement.specs.Promises.{Started-with, In-span}
-use Rattle.agreement.proofs.Steadies.{Strong, Ample, strong-steady, meet}
+use Rattle.agreement.proofs.Steadies.{Ample, strong-steady, meet}
 use Rattle.agreement.proofs.Running.{start_fits}
 use Rattle.agreement.proofs.Echo.Tests.{Approved, Two-approved, Mixed}
 use Rattle.agreement.proofs.Echo.Sound.{Passed, Justified, second-sound, third-sound, fourth-sound, fifth-sound, decided-sound}

@@ -1,5 +1,5 @@
 -- The tests of the echo method as statements about what is counted. Once true, each stays true as more is counted. Assumes nothing.
-use Rattle.std.proofs.Common.{◌≡◌, ℕ, suc, ◌<◌, ◌≤◌, Bool, true, false, not, ◌&&◌, eqb, ◌≢◌, ◌⊎◌, List, ◌∷◌, Some, inl, inr, ⊎_elim, arith}
+use Rattle.std.proofs.Common.{◌≡◌, ℕ, ◌≤◌, Bool, true, eqb, ◌≢◌, ◌⊎◌, List, ◌∷◌, Some, inl, inr, ⊎_elim, arith}
 use Rattle.std.proofs.lemmas.Bool.{eqb-true, ne_eqb, eqb-false, and_parts, and_from, or_cases, or_left, or_right, not-true, not_from_false}
 use Rattle.quorum.specs.Rules.{Lawful, strongBy, ampleBy}
 use Rattle.quorum.proofs.Tested.{strongBy-grows, ampleBy-grows}

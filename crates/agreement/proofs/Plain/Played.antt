@@ -1,5 +1,5 @@
 -- The runs of the plain method that are written out happen: the checker computes them. Assumes nothing.
-use Rattle.std.proofs.Common.{◌≡◌, refl, arith}
+use Rattle.std.proofs.Common.{refl, arith}
 use lib.Count.{ones, ones_in}
 use Rattle.quorum.specs.Sets.{member, setOf, rest}
 use Rattle.quorum.specs.Rules.{strong, ample}

@@ -1,5 +1,5 @@
 -- Runs of the echo method that happen, each with its oldest event first. Board 3 is listed, and lies. Assumes nothing.
-use Rattle.std.specs.Prelude.{ℕ, true, List, [], ◌∷◌}
+use Rattle.std.specs.Prelude.{true, List, [], ◌∷◌}
 use Rattle.quorum.specs.Counting.{count-rule}
 use Rattle.vote.specs.declared.Decision.{Decision}
 use Rattle.vote.specs.declared.Depth.{Depth}

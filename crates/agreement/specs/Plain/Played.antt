@@ -1,5 +1,5 @@
 -- Runs of the plain method that happen, each with its oldest event first. Board 2 is listed, and falls silent. Assumes nothing.
-use Rattle.std.specs.Prelude.{ℕ, false, List, [], ◌∷◌}
+use Rattle.std.specs.Prelude.{false, List, [], ◌∷◌}
 use Rattle.quorum.specs.Counting.{count-rule}
 use Rattle.vote.specs.declared.Decision.{Decision}
 use Rattle.vote.specs.declared.Depth.{Depth}

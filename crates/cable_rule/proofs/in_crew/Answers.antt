@@ -1,5 +1,5 @@
 -- A set of 16 bits has no board from 16 up. Assumes nothing.
-use Rattle.std.proofs.Common.{ℕ, ◌^◌, ◌≤◌, sym, arith, pow_mono}
+use Rattle.std.proofs.Common.{◌^◌, ◌≤◌, sym, arith, pow_mono}
 use Rattle.std.proofs.lemmas.Bool.{lt-ltb}
 use Rattle.cable_rule.proofs.in_crew.Goals as goal
 

@@ -1,7 +1,6 @@
 -- A board is on the cable if its bit is set. Assumes nothing.
-use Rattle.std.proofs.Common.{◌≡◌, ℕ, ◌/◌, ◌%◌, ◌^◌, ◌<◌, eqb, sym, ap, ◌∙◌, arith}
+use Rattle.std.proofs.Common.{ℕ, ◌/◌, ◌^◌, ◌<◌, eqb, sym, ap, ◌∙◌, arith}
 use lib.Bits.{and_mask}
-use Rattle.quorum.specs.Sets.{member}
 use Rattle.quorum.specs.Truth.{false-unless}
 use Rattle.quorum.specs.Members.{member_is, member-lt}
 use Rattle.cable_rule.proofs.on_cable.Goals as goal

@@ -1,8 +1,7 @@
 -- The numbers are what follows the letter and the comma. Assumes nothing.
-use Rattle.std.proofs.Common.{◌≡◌, ◌-◌, length, get_or, take, drop, Some, None, vec_items, sym, ap, ◌∙◌, arith}
+use Rattle.std.proofs.Common.{◌≡◌, ◌-◌, length, take, drop, Some, None, vec_items, sym, ap, ◌∙◌, arith}
 use Rattle.std.proofs.lemmas.List.{take_rest}
 use Rattle.board_bench.specs.Lines.{numbers-in}
-use Rattle.board_bench.specs.Asking.{asked_by}
 use Rattle.board_bench.proofs.Reading.{asked-readable}
 use Rattle.board_bench.proofs.asked.read_asked.Goals as goal
 

@@ -1,5 +1,5 @@
 -- The settings tell under the other rule what they would tell under the one asked for, as far as it is lower. Assumes nothing.
-use Rattle.std.proofs.Common.{◌≡◌, ℕ, cond, ltb, Some, None, Option, sym, ap, ◌∙◌, ap₂}
+use Rattle.std.proofs.Common.{ℕ, cond, ltb, Some, None, Option, sym, ap, ◌∙◌, ap₂}
 use Rattle.refusal.specs.declared.Refusal.{Refusal}
 use Rattle.board_bench.proofs.Lowest.{lowest-told}
 use Rattle.board_bench.proofs.fitting.lowest.Goals as goal

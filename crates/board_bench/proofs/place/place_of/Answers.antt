@@ -1,5 +1,5 @@
 -- Each byte that is not the mark makes the way longer. Assumes nothing.
-use Rattle.std.proofs.Common.{length, arith}
+use Rattle.std.proofs.Common.{arith}
 use Rattle.board_bench.specs.Lines.{until}
 use Rattle.board_bench.proofs.Reading.{mark-step, mark-here, mark-none}
 use Rattle.board_bench.proofs.place.place_of.Goals as goal

@@ -1,5 +1,5 @@
 -- The frame is what follows the comma. Assumes nothing.
-use Rattle.std.proofs.Common.{◌≡◌, sym, refl, ap, ◌∙◌, arith}
+use Rattle.std.proofs.Common.{sym, refl, ap, ◌∙◌, arith}
 use Rattle.std.proofs.lemmas.List.{take_rest}
 use Rattle.board_bench.specs.Answers.{refused, taken}
 use Rattle.board_bench.proofs.Turning.{turned-refused, turned_taken}

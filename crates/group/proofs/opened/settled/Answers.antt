@@ -1,4 +1,4 @@
-use Rattle.std.proofs.Common.{◌≡◌, ℕ, ◌<◌, sym, refl, ap, subst, rules}
+use Rattle.std.proofs.Common.{ℕ, ◌<◌, refl, subst, rules}
 use Rattle.group.proofs.Accepted.{terms-sound, starts-settled}
 use Rattle.group.proofs.opened.settled.Goals as goal
 

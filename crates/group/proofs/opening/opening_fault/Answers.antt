@@ -1,11 +1,7 @@
-use Rattle.std.proofs.Common.{◌≡◌, ℕ, Bool, cond, not, ◌&&◌, Some, None, Option, sym, ap, ◌∙◌, rules}
-use Rattle.quorum.specs.Rules.{Rule}
+use Rattle.std.proofs.Common.{◌≡◌, cond, Some, ◌∙◌, rules}
 use Rattle.wire.specs.Fields.{is_within}
-use Rattle.board.specs.declared.fault.BoardFault.TheVariants.{Crew, Characters, Depth, Cover, EchoCover, Address, Start}
-use Rattle.board.specs.Fitting.{echo-under-two}
-use Rattle.group.specs.declared.fault.GroupFault.{GroupFault}
-use Rattle.group.specs.declared.fault.GroupFault.TheVariants.{Opening as Against, Family}
-use Rattle.group.specs.declared.opening.Opening.{Opening}
+use Rattle.board.specs.declared.fault.BoardFault.TheVariants.{Crew}
+use Rattle.group.specs.declared.fault.GroupFault.TheVariants.{Opening as Against}
 use Rattle.group.specs.Opening.{opening-fault}
 use Rattle.group.proofs.Asked.{starts-asked, behind-crew}
 use Rattle.group.proofs.opening.opening_fault.Goals as goal

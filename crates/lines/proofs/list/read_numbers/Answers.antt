@@ -1,5 +1,5 @@
 -- Each byte takes the reading a step on. Assumes nothing.
-use Rattle.std.proofs.Common.{◌≡◌, ℕ, ◌+◌, List, length, take, drop, Some, None, Option, sym, ap, ◌∙◌, ap₂, arith}
+use Rattle.std.proofs.Common.{ℕ, ◌+◌, List, take, drop, Some, None, Option, sym, ap, ◌∙◌, ap₂, arith}
 use Rattle.lines.proofs.Scan.{numbers_on, numbers-begun, begun, comma-met, digit-met, end-met}
 use Rattle.lines.specs.declared.numbers.Numbers.{Numbers}
 use Rattle.lines.specs.Items.{items}

@@ -1,5 +1,5 @@
 -- Each turn passes one number more. Assumes nothing.
-use Rattle.std.proofs.Common.{◌≡◌, ℕ, List, [], ◌∷◌, ◌++◌, take, sym, ap, ◌∙◌, ap₂, arith}
+use Rattle.std.proofs.Common.{[], ◌∷◌, ◌++◌, take, ap, ◌∙◌, ap₂, arith}
 use Rattle.lines.specs.Items.{items}
 use Rattle.lines.proofs.Cuts.{none_passed, one-passed, all-passed}
 use Rattle.lines.proofs.list.rest_of.Goals as goal

@@ -1,5 +1,5 @@
 -- Just four numbers are to, from, kind and value. Assumes nothing.
-use Rattle.std.proofs.Common.{ℕ, List, get_or, refl, ◌∙◌, arith}
+use Rattle.std.proofs.Common.{ℕ, List, get_or, ◌∙◌, arith}
 use Rattle.lines.specs.Calls.{Call, carries}
 use Rattle.lines.specs.Items.{items}
 use Rattle.lines.proofs.Calling.{none_read, too-many-read, just-read, same-carry}

@@ -1,6 +1,6 @@
 -- Just one number is the board's. Assumes nothing.
 use Rattle.std.proofs.Common.{get_or, ap, ◌∙◌, arith}
-use Rattle.lines.specs.Calls.{Call, starts-board}
+use Rattle.lines.specs.Calls.{starts-board}
 use Rattle.lines.specs.Items.{items}
 use Rattle.lines.proofs.Calling.{none_read, too-many-read, just-read}
 use Rattle.lines.proofs.numeric.start.Goals as goal

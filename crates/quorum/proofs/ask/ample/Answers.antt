@@ -1,5 +1,5 @@
 -- The answer is by the definition, and the facts by the rule's laws. Assumes nothing.
-use Rattle.std.proofs.Common.{◌≡◌, ℕ, ◌<◌, ◌≤◌, sym, ap, ◌∙◌, arith}
+use Rattle.std.proofs.Common.{◌≡◌, ℕ, ◌≤◌, sym, ap, ◌∙◌, arith}
 use Rattle.quorum.specs.Limits.{max-crew}
 use Rattle.quorum.specs.Sets.{rest}
 use Rattle.quorum.specs.Rules.{Rule, ample}

@@ -1,5 +1,5 @@
 -- The walk over the sets. Assumes nothing.
-use Rattle.std.proofs.Common.{Bool, ◌&&◌, length, sym, ap, ◌∙◌, arith}
+use Rattle.std.proofs.Common.{length, sym, arith}
 use Rattle.std.proofs.lemmas.Bool.{le-leb, and_right, and_from}
 use Rattle.quorum.specs.Limits.{max-listed}
 use Rattle.quorum.specs.Sets.{inCrew}

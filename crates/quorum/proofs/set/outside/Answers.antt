@@ -2,7 +2,6 @@
 use Rattle.std.proofs.Common.{ℕ, ◌-◌, ◌^◌, sym, ap, ◌∙◌, arith}
 use lib.Bits.{bit_and, and_le_l, and_comm, and_mask}
 use Rattle.std.proofs.lemmas.Nat.{one_shl}
-use Rattle.quorum.specs.Sets.{rest}
 use Rattle.quorum.proofs.Masks.{rest-is}
 use Rattle.quorum.proofs.set.outside.Goals as goal
 

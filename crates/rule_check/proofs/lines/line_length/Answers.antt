@@ -1,5 +1,5 @@
 -- Each byte that is no line feed makes the line longer. Assumes nothing.
-use Rattle.std.proofs.Common.{length, arith}
+use Rattle.std.proofs.Common.{arith}
 use Rattle.rule_check.specs.Lines.{until-feed}
 use Rattle.rule_check.proofs.Reading.{feed-step, feed-here, feed-none}
 use Rattle.rule_check.proofs.lines.line_length.Goals as goal

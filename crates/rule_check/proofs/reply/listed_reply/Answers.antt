@@ -1,8 +1,5 @@
 -- The sets are what follows the first three numbers. Assumes nothing.
-use Rattle.std.proofs.Common.{◌≡◌, length, get_or, take, drop, sym, subst, arith}
 use Rattle.std.proofs.lemmas.List.{take_rest}
-use Rattle.rule_check.specs.declared.reply.Reply.TheVariants.{Good, Refused}
-use Rattle.rule_check.specs.Replies.{Replies}
 use Rattle.rule_check.proofs.Reading.{listed-readable}
 use Rattle.rule_check.proofs.reply.listed_reply.Goals as goal
 

@@ -1,4 +1,4 @@
-use Rattle.std.proofs.Common.{◌≡◌, ℕ, ap, subst, arith}
+use Rattle.std.proofs.Common.{◌≡◌, ℕ, subst, arith}
 use Rattle.wire.specs.Frames.{frame-of}
 use Rattle.wire.specs.Slips.{if-held, words-of-kind}
 use Rattle.wire.proofs.InOrder.{Putting, putting-none, putting-room, putting-more}

@@ -1,7 +1,7 @@
-use Rattle.std.proofs.Common.{◌≡◌, ◌-◌, ◌*◌, ◌%◌, ◌^◌, ◌<◌, length, get_or, set, sym, ap, ◌∙◌, arith, rules}
+use Rattle.std.proofs.Common.{◌≡◌, ◌-◌, ◌*◌, ◌%◌, ◌^◌, length, get_or, set, ap, ◌∙◌, arith, rules}
 use lib.Bits.{bit_or}
 use Rattle.std.proofs.lemmas.Nat.{one_shl}
-use Rattle.wire.specs.Slips.{with-word, holds}
+use Rattle.wire.specs.Slips.{holds}
 use Rattle.wire.proofs.Slipped.{word-added}
 use Rattle.wire.proofs.posted.with_word.Goals as goal
 

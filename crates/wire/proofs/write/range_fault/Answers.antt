@@ -1,7 +1,6 @@
-use Rattle.std.proofs.Common.{◌≡◌, ◌+◌, decimal, sym, refl, ◌∙◌, arith}
+use Rattle.std.proofs.Common.{decimal, sym, refl, ◌∙◌, arith}
 use Rattle.std.proofs.lemmas.List.{length_push}
 use Rattle.wire.specs.Limits.{comma}
-use Rattle.wire.specs.Writes.{change-place, sender-place, kind-place, value-place}
 use Rattle.wire.proofs.Ranging.{bad-group, bad-change, bad-sender, bad_kind, bad-value, all-good}
 use Rattle.wire.proofs.write.range_fault.Goals as goal
 

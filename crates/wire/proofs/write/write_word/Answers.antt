@@ -1,4 +1,4 @@
-use Rattle.std.proofs.Common.{◌≡◌, ◌≤◌, leb, length, get_or, take, None, Ok, Err, sym, refl, ap, ◌∙◌, ap₂, arith}
+use Rattle.std.proofs.Common.{◌≡◌, ◌≤◌, leb, length, get_or, take, None, Ok, Err, sym, ap, ◌∙◌, ap₂, arith}
 use Rattle.std.proofs.lemmas.Bool.{cond-true, le-leb}
 use Rattle.wire.specs.Faults.{fault}
 use Rattle.wire.specs.Frames.{frame-of, word_in}

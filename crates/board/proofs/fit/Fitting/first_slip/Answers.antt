@@ -1,4 +1,4 @@
-use Rattle.std.proofs.Common.{◌≡◌, ◌*◌, ◌≤◌, length, sym, ap, ◌∙◌, subst}
+use Rattle.std.proofs.Common.{◌*◌, ◌≤◌, length, sym, ap, ◌∙◌, subst}
 use Rattle.wire.specs.declared.posted.Posted.{Posted}
 use Rattle.wire.specs.Slips.{words_of}
 use Rattle.board.specs.Shown.{setting-of}

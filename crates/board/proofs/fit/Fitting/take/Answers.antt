@@ -1,4 +1,4 @@
-use Rattle.std.proofs.Common.{◌≡◌, Ok, sym, ◌∙◌}
+use Rattle.std.proofs.Common.{◌≡◌, Ok, sym}
 use Rattle.board.specs.Taking.{word-taken}
 use Rattle.board.proofs.Slips.{characters-low}
 use Rattle.board.proofs.Words.{good-word}

@@ -1,4 +1,4 @@
-use Rattle.std.proofs.Common.{◌≡◌, refl, ap, ◌∙◌}
+use Rattle.std.proofs.Common.{refl}
 use Rattle.board.specs.Shown.{setting-of}
 use Rattle.board.specs.Laws.{Board-keeps}
 use Rattle.board.proofs.Kept.{method-facts}

@@ -1,4 +1,4 @@
-use Rattle.std.proofs.Common.{◌≡◌, ℕ, length, sym, refl, ◌∙◌, subst, rules}
+use Rattle.std.proofs.Common.{ℕ, sym, refl, ◌∙◌, subst}
 use Rattle.group.specs.Opening.{Good-opening}
 use Rattle.group.proofs.Accepted.{accepted-parts, opened}
 use Rattle.group.proofs.group.Group.open.Goals as goal

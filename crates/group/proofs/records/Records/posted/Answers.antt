@@ -1,6 +1,6 @@
-use Rattle.std.proofs.Common.{◌≡◌, sym, subst, arith}
+use Rattle.std.proofs.Common.{arith}
 use Rattle.std.proofs.lemmas.Bool.{false≢true}
-use Rattle.group.proofs.Standing.{posted-is, kind-unposted, value-unposted}
+use Rattle.group.proofs.Standing.{kind-unposted, value-unposted}
 use Rattle.group.proofs.Posted.{posted-told}
 use Rattle.group.proofs.records.Records.posted.Goals as goal
 

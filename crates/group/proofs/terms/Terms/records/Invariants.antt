@@ -1,4 +1,4 @@
-use Rattle.std.proofs.Common.{◌≡◌, ℕ, ◌<◌, ◌≤◌, false, [], length, get_or}
+use Rattle.std.proofs.Common.{◌≡◌, ℕ, ◌<◌, false, [], length, get_or}
 use Rattle.quorum.specs.Rules.{Rule}
 use Rattle.board.specs.Shown.{record_of}
 use Rattle.group.specs.declared.records.Board.{Board}

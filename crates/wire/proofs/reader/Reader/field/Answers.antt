@@ -1,4 +1,4 @@
-use Rattle.std.proofs.Common.{◌≡◌, true, false, sym, refl, ◌∙◌, arith, rules}
+use Rattle.std.proofs.Common.{sym, refl, ◌∙◌, arith, rules}
 use Rattle.wire.proofs.FieldRead.{field-none, field-zero, field_out, field-good, run_inside}
 use Rattle.wire.proofs.reader.Reader.field.Goals as goal
 

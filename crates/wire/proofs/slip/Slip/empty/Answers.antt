@@ -1,4 +1,4 @@
-use Rattle.std.proofs.Common.{◌≡◌, Ok, ap, ◌∙◌}
+use Rattle.std.proofs.Common.{Ok, ap, ◌∙◌}
 use Rattle.wire.specs.Slips.{word_of, none-posted}
 use Rattle.wire.specs.Writes.{range-fault, unless}
 use Rattle.wire.proofs.Slipped.{made-empty, none-posted-none}

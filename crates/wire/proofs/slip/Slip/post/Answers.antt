@@ -1,4 +1,4 @@
-use Rattle.std.proofs.Common.{◌≡◌, None, Ok, sym, refl, ap, ◌∙◌}
+use Rattle.std.proofs.Common.{◌≡◌, None, Ok, sym, ap, ◌∙◌}
 use Rattle.wire.specs.Slips.{word_of}
 use Rattle.wire.specs.Writes.{range-fault, unless}
 use Rattle.wire.proofs.Ranging.{none-ranges}
