@@ -1,0 +1,3 @@
+pub mod Openings
+pub mod Calling
+pub mod Lining

@@ -1,0 +1,13 @@
+-- What each fault of a session tells. Assumes nothing.
+use Rattle.refusal.specs.declared.Refusal.{Refusal}
+use Rattle.board.specs.Faults.{told}
+use Rattle.quorum.specs.Faults as quorum
+use Rattle.group.specs.Faults as group
+use Rattle.session.specs.declared.fault.SessionFault.{SessionFault}
+use Rattle.session.specs.declared.fault.SessionFault.TheVariants.{Unreadable, Rule, Group}
+
+-- every case; the layer follows from the number
+abbrev pub refusal-of : SessionFault → Refusal
+refusal-of Unreadable = told 29
+refusal-of (Rule e) = quorum.refusal-of e
+refusal-of (Group e) = group.refusal-of e

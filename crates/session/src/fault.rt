@@ -1,0 +1,51 @@
+// Why a line of a session is refused.
+ghost use Rattle.std.specs.Prelude.{◌≡◌};
+ghost use Rattle.session.specs.Faults.{refusal-of};
+ghost use Rattle.session.specs.declared.fault.SessionFault.TheVariants.{Rule, Group};
+
+use group::GroupFault;
+use quorum::RuleFault;
+use refusal::Refusal;
+
+#[derive(Clone, Copy, PartialEq, Debug)]
+pub enum SessionFault {
+    // no call can be read from the line
+    Unreadable,
+    // what stands against the rule that the line asks for
+    Rule(RuleFault),
+    // what stands against the opening, or what the group refuses
+    Group(GroupFault),
+}
+
+impl SessionFault {
+    // What is told of the fault.
+    pub fn refusal(&self) -> Refusal
+        ensures { result ≡ refusal-of self.now }
+    {
+        match *self {
+            SessionFault::Unreadable => Refusal {
+                number: 29,
+                place: None,
+                board: None,
+            },
+            SessionFault::Rule(fault) => fault.refusal(),
+            SessionFault::Group(fault) => fault.refusal(),
+        }
+    }
+}
+
+impl From<RuleFault> for SessionFault {
+    ghost from_gives = { λ e r. r ≡ Rule e };
+
+    fn from(e: RuleFault) -> SessionFault {
+        SessionFault::Rule(e)
+    }
+}
+
+impl From<GroupFault> for SessionFault {
+    ghost from_gives = { λ e r. r ≡ Group e };
+
+    fn from(e: GroupFault) -> SessionFault {
+        SessionFault::Group(e)
+    }
+}

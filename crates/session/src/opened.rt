@@ -1,0 +1,23 @@
+// A line opens a group, or what stands against it is told, by rising number across rule and group.
+ghost use Rattle.std.specs.Prelude.{◌≡◌, length};
+ghost use Rattle.lines.specs.Told.{opening_of, starts-of};
+ghost use Rattle.session.specs.Shown.{Opens};
+
+use crate::fault::SessionFault;
+use crate::opening::{asked, rule, sizes_fault};
+use group::Group;
+use lines::Plan;
+use quorum::EitherRule;
+
+pub(crate) fn opened(plan: &Plan) -> Result<Group<EitherRule>, SessionFault>
+    requires { length (starts-of plan.now) ≡ plan.now.crew }
+    ensures { Opens (opening_of plan.now) result }
+{
+    if let Some(fault) = sizes_fault(plan) {
+        return Err(fault);
+    }
+    let rule = rule(plan)?;
+    let opening = asked(plan);
+    let group = Group::open(rule, &opening)?;
+    Ok(group)
+}

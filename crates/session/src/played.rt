@@ -1,0 +1,37 @@
+// A line is read, and its call made.
+ghost use Rattle.session.specs.Shown.{Plays-line};
+
+use crate::calls::{carry, forge, open, start};
+use crate::fault::SessionFault;
+use crate::letter::letter;
+use crate::reply::Reply;
+use group::Group;
+use lines::{Line, read_line};
+use quorum::EitherRule;
+
+pub(crate) fn play(group: &mut Option<Group<EitherRule>>, line: &[u8]) -> Reply
+    ensures { Plays-line group.old line.now group.new result }
+{
+    match read_line(line) {
+        Line::Unreadable => Reply {
+            letter: b'?',
+            answer: Err(SessionFault::Unreadable),
+        },
+        Line::Open(plan) => Reply {
+            letter: letter(plan.by),
+            answer: open(group, &plan),
+        },
+        Line::Start(board) => Reply {
+            letter: b's',
+            answer: start(group, board),
+        },
+        Line::Carry(to, from, kind, value) => Reply {
+            letter: b'c',
+            answer: carry(group, to, from, kind, value),
+        },
+        Line::Forge(to, from, place) => Reply {
+            letter: b'f',
+            answer: forge(group, to, from, &line[place..]),
+        },
+    }
+}

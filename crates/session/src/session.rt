@@ -1,0 +1,32 @@
+// The lines of a session, one after the other.
+ghost use Rattle.std.specs.Prelude.{[]};
+ghost use Rattle.session.specs.Shown.{Led-by, Led, Plays-line, Keeps-the-promise};
+
+use crate::played::play;
+use crate::reply::Reply;
+use group::Group;
+use quorum::EitherRule;
+
+// The group that is open, if one is. Lines have led to it, and nothing else.
+#[derive(Drop)]
+pub struct Session {
+    group: Option<Group<EitherRule>>,
+    ghost led: { ∥ Led group ∥₁ },
+}
+
+impl Session {
+    // Before the first line nothing is open.
+    pub fn new() -> Session
+        ensures { Led-by result.group [] }
+    {
+        Session { group: None }
+    }
+
+    // Plays a line, with its line feed.
+    pub fn play(&mut self, line: &[u8]) -> Reply
+        ensures plays { Plays-line self.old.group line.now self.new.group result }
+        ensures keeps { Keeps-the-promise self.new.group }
+    {
+        play(&mut self.group, line)
+    }
+}
