@@ -14,16 +14,18 @@ use Rattle.session.specs.declared.fault.SessionFault.{SessionFault}
 use Rattle.session.specs.declared.reply.Played.{Played}
 use Rattle.session.specs.declared.reply.Reply.{Reply}
 use Rattle.session.specs.Standing.{Standing, nothing-open, stands-open, stands-with, stands-after}
-use Rattle.session.specs.Replies.{letter-of, answer-of, reply-of}
+use Rattle.session.specs.declared.letter.Letter.{Letter}
+use Rattle.session.specs.Letters.{letter-of}
+use Rattle.session.specs.Replies.{answer-of, reply-of}
 use Rattle.session.specs.Shown.{Shows, Led-by, Led, Plays-call, Plays-line, Promised, Keeps-the-promise}
 
-pub line-plays : (g h : Option (Group EitherRule)) (line : List ℕ) (x : lines.Call) (letter : ℕ) (r : Result Played SessionFault)
+pub line-plays : (g h : Option (Group EitherRule)) (line : List ℕ) (x : lines.Call) (letter : Letter) (r : Result Played SessionFault)
     → x ≡ call-in line → letter ≡ letter-of x → Plays-call g x h r → Plays-line g line h (record { letter = letter; answer = r })
 unfolding stands-after
 line-plays g h line x letter r is same plays ls led =
     let p = plays (stands-after ls) led in (
       subst (λ (y : lines.Call). Shows h (stands-with (stands-after ls) y)) is p.0,
-      ap₂ (λ (l : ℕ) (a : Result Played SessionFault). record { letter = l; answer = a }) same p.1 ∙ ap (reply-of g (stands-after ls)) is,
+      ap₂ (λ (l : Letter) (a : Result Played SessionFault). record { letter = l; answer = a }) same p.1 ∙ ap (reply-of g (stands-after ls)) is,
     )
 
 lawful : (x : EitherRule) → Lawful (either-rule x)

@@ -2,5 +2,8 @@ pub mod Faults
 pub mod Opening
 pub mod Asked
 pub mod Standing
+pub mod Letters
 pub mod Replies
+pub mod Texts
+pub mod Gathering
 pub mod Shown

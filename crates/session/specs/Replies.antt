@@ -3,8 +3,7 @@ use Rattle.std.specs.Prelude.{ℕ, List, ◌∷◌, Some, None, Ok, Err, Option,
 use Rattle.quorum.specs.declared.either.EitherRule.{EitherRule}
 use Rattle.quorum.specs.Rules.{Rule}
 use Rattle.lines.specs.Calls as lines
-use Rattle.lines.specs.Calls.{Failing, by_count, by-sets, unreadable, opens, starts-board, carries, forges}
-use Rattle.lines.specs.Lines.{open-by-count-letter, open-by-sets-letter, start-letter, carry-letter, forge-letter}
+use Rattle.lines.specs.Calls.{unreadable, opens, starts-board, carries, forges}
 use Rattle.group.specs.declared.fault.GroupFault.{GroupFault}
 use Rattle.group.specs.declared.fault.GroupFault.TheVariants.{NoGroup}
 use Rattle.group.specs.declared.group.Group.{Group}
@@ -16,23 +15,9 @@ use Rattle.session.specs.declared.fault.SessionFault.{SessionFault}
 use Rattle.session.specs.declared.fault.SessionFault.TheVariants.{Unreadable, Group as Of-group}
 use Rattle.session.specs.declared.reply.Played.{Played}
 use Rattle.session.specs.declared.reply.Reply.{Reply}
+use Rattle.session.specs.Letters.{letter-of}
 use Rattle.session.specs.Opening.{rule-of, opening-fault}
 use Rattle.session.specs.Standing.{Standing, nothing-open, stands-open}
-
-abbrev pub question-mark : ℕ
-question-mark = 63
-
-abbrev pub opening-letter : Failing → ℕ
-opening-letter (by_count f) = open-by-count-letter
-opening-letter (by-sets ss) = open-by-sets-letter
-
--- the line's letter, or a question mark
-abbrev pub letter-of : lines.Call → ℕ
-letter-of unreadable = question-mark
-letter-of (opens o) = opening-letter o.failing
-letter-of (starts-board i) = start-letter
-letter-of (carries to from kind value) = carry-letter
-letter-of (forges to from bytes) = forge-letter
 
 -- an accepted opening posts nothing, and names no board
 abbrev pub opening-says : Option SessionFault → Result Played SessionFault

@@ -1,15 +1,42 @@
-// The letter of a line that opens a group.
-ghost use Rattle.std.specs.Prelude.{◌≡◌, ℕ, List};
+// The letter by which an answer tells its line.
+ghost use Rattle.std.specs.Prelude.{◌≡◌, ℕ, List, Some};
 ghost use Rattle.lines.specs.Told.{failing-by};
-ghost use Rattle.session.specs.Replies.{opening-letter};
+ghost use Rattle.session.specs.Letters.{opening-letter, letter-text};
 
 use lines::By;
+use std::fmt;
 
-pub(crate) fn letter(by: By) -> u8
+#[derive(Clone, Copy, PartialEq, Eq, Debug)]
+pub enum Letter {
+    // no call can be read
+    Unreadable,
+    OpenByCount,
+    OpenBySets,
+    Start,
+    Carry,
+    Forge,
+}
+
+pub(crate) fn opening_letter(by: By) -> Letter
     ensures { (vs : List ℕ) → result ≡ opening-letter (failing-by by vs) }
 {
     match by {
-        By::Count(_) => b'o',
-        By::Sets(_) => b'g',
+        By::Count(_) => Letter::OpenByCount,
+        By::Sets(_) => Letter::OpenBySets,
+    }
+}
+
+impl fmt::Display for Letter {
+    ghost output = { λ l. Some (letter-text l) };
+
+    fn fmt<W: fmt::Write>(&self, f: &mut fmt::Formatter<W>) -> fmt::Result {
+        match *self {
+            Letter::Unreadable => write!(f, "?"),
+            Letter::OpenByCount => write!(f, "o"),
+            Letter::OpenBySets => write!(f, "g"),
+            Letter::Start => write!(f, "s"),
+            Letter::Carry => write!(f, "c"),
+            Letter::Forge => write!(f, "f"),
+        }
     }
 }

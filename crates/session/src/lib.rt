@@ -5,6 +5,7 @@
 
 mod calls;
 mod fault;
+mod gather;
 mod letter;
 mod opened;
 mod opening;
@@ -13,5 +14,7 @@ mod reply;
 mod session;
 
 pub use fault::SessionFault;
+pub use gather::{Gathered, ROOM};
+pub use letter::Letter;
 pub use reply::{Played, Reply};
 pub use session::Session;

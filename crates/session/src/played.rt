@@ -3,7 +3,7 @@ ghost use Rattle.session.specs.Shown.{Plays-line};
 
 use crate::calls::{carry, forge, open, start};
 use crate::fault::SessionFault;
-use crate::letter::letter;
+use crate::letter::{Letter, opening_letter};
 use crate::reply::Reply;
 use group::Group;
 use lines::{Line, read_line};
@@ -14,23 +14,23 @@ pub(crate) fn play(group: &mut Option<Group<EitherRule>>, line: &[u8]) -> Reply
 {
     match read_line(line) {
         Line::Unreadable => Reply {
-            letter: b'?',
+            letter: Letter::Unreadable,
             answer: Err(SessionFault::Unreadable),
         },
         Line::Open(plan) => Reply {
-            letter: letter(plan.by),
+            letter: opening_letter(plan.by),
             answer: open(group, &plan),
         },
         Line::Start(board) => Reply {
-            letter: b's',
+            letter: Letter::Start,
             answer: start(group, board),
         },
         Line::Carry(to, from, kind, value) => Reply {
-            letter: b'c',
+            letter: Letter::Carry,
             answer: carry(group, to, from, kind, value),
         },
         Line::Forge(to, from, place) => Reply {
-            letter: b'f',
+            letter: Letter::Forge,
             answer: forge(group, to, from, &line[place..]),
         },
     }

@@ -1,5 +1,10 @@
-// What a line is answered.
+// What a line is answered, and how the answer is written.
+ghost use Rattle.std.specs.Prelude.{Some};
+ghost use Rattle.session.specs.Texts.{reply-text};
+
 use crate::fault::SessionFault;
+use crate::letter::Letter;
+use std::fmt;
 use vote::Decision;
 
 // What an accepted line did: how many words were posted, and what the board that the line names first has decided, if it has.
@@ -11,7 +16,30 @@ pub struct Played {
 
 #[derive(Clone, Copy)]
 pub struct Reply {
-    // the line's letter, or a question mark where no call can be read
-    pub letter: u8,
+    pub letter: Letter,
     pub answer: Result<Played, SessionFault>,
+}
+
+impl fmt::Display for Reply {
+    ghost output = { λ r. Some (reply-text r) };
+
+    fn fmt<W: fmt::Write>(&self, f: &mut fmt::Formatter<W>) -> fmt::Result {
+        let letter = self.letter;
+        match self.answer {
+            Err(fault) => {
+                let number = fault.refusal().number;
+                write!(f, "{letter},{number},0,-,-")
+            }
+            Ok(played) => {
+                let words = played.words;
+                match played.decision {
+                    None => write!(f, "{letter},0,{words},-,-"),
+                    Some(decision) => {
+                        let Decision { value, grade } = decision;
+                        write!(f, "{letter},0,{words},{value},{grade}")
+                    }
+                }
+            }
+        }
+    }
 }

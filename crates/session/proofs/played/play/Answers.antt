@@ -11,7 +11,7 @@ pub returns-in-Unreadable : goal.returns-in-Unreadable
 returns-in-Unreadable c = line-plays _ _ c.args.line.now unreadable _ _ c.in-Unreadable.ensures.call refl (λ s shows. (shows, refl))
 
 pub returns-in-Open : goal.returns-in-Open
-returns-in-Open c = line-plays _ _ c.args.line.now (opens (opening_of c.in-Open.plan)) _ _ c.in-Open.ensures.call (c.letter.ensures (items c.in-Open.plan.numbers)) c.open.ensures
+returns-in-Open c = line-plays _ _ c.args.line.now (opens (opening_of c.in-Open.plan)) _ _ c.in-Open.ensures.call (c.opening_letter.ensures (items c.in-Open.plan.numbers)) c.open.ensures
 
 pub returns-in-Start : goal.returns-in-Start
 returns-in-Start c = line-plays _ _ c.args.line.now (starts-board c.in-Start.board) _ _ c.in-Start.ensures.call refl c.start.ensures
