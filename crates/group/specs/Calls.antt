@@ -34,7 +34,7 @@ pub data Call : Type 0 where
   forging : ℕ → ℕ → List ℕ → Call
 
 -- the fault of the first test that fails
-abbrev pub first-failed : List (Bool × GroupFault) → Option GroupFault
+abbrev pub first-failed : {A : Type 0} → List (Bool × A) → Option A
 first-failed [] = None
 first-failed (t ∷ ts) = cond t.0 (first-failed ts) (Some t.1)
 

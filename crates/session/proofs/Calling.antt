@@ -1,5 +1,5 @@
 -- From what the group promises of a call to what the session answers. Assumes nothing.
-use Rattle.std.proofs.Common.{◌≡◌, ℕ, ◌<◌, ◌≤◌, Bool, true, false, List, ◌∷◌, Some, None, Ok, Err, Option, Result, sym, refl, ap, ◌∙◌, subst}
+use Rattle.std.proofs.Common.{◌≡◌, ℕ, ◌<◌, false, List, ◌∷◌, Some, None, Ok, Err, Option, Result, sym, refl, ap, ◌∙◌, subst}
 use Rattle.std.specs.Prelude.{is_ok}
 use Rattle.std.proofs.lemmas.Bool.{false≢true}
 use Rattle.quorum.specs.declared.either.EitherRule.{EitherRule}
@@ -17,9 +17,7 @@ use Rattle.group.specs.Calls as group
 use Rattle.group.specs.Opening.{Settles}
 use Rattle.group.specs.Promises.{Reached, Plays, Plays-after, Tells-decided, decided-after}
 use Rattle.group.proofs.Faultless.{may-start, may-carry, may-forge}
-use Rattle.session.specs.declared.fault.SessionFault.{SessionFault}
 use Rattle.session.specs.declared.fault.SessionFault.TheVariants.{Group as Of-group}
-use Rattle.session.specs.declared.reply.Played.{Played}
 use Rattle.session.specs.Opening.{rule-of}
 use Rattle.session.specs.Replies.{group-says}
 use Rattle.session.specs.Shown.{asked-of, Shows-open, Calls}

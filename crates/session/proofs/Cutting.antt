@@ -1,9 +1,9 @@
 -- A line with more bytes than a line can have writes no call, and neither does its front. Assumes nothing.
-use Rattle.std.proofs.Common.{◌≡◌, ℕ, ◌<◌, ◌≤◌, ◌-◌, Bool, true, false, cond, ◌&&◌, leb, List, length, take, sym, refl, ap, ◌∙◌, inl, inr, arith, length-take}
+use Rattle.std.proofs.Common.{◌≡◌, ℕ, ◌≤◌, ◌-◌, Bool, true, false, cond, ◌&&◌, List, length, take, sym, refl, ap, ◌∙◌, inl, inr, arith, length-take}
 use Rattle.std.proofs.lemmas.Bool.{cases_lt, lt-leb}
 use Rattle.std.proofs.lemmas.List.{take_all}
 use Rattle.std.specs.Prelude.{◌==◌, nat_lt, nat_le, slice_index}
-use Rattle.lines.specs.Calls.{Call, unreadable}
+use Rattle.lines.specs.Calls.{unreadable}
 use Rattle.lines.specs.Lines.{lettered, line-feed, max-line, call_by, call-in}
 
 third-fails : (a b d : Bool) → (a && b && false && d) ≡ false

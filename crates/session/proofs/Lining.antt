@@ -1,23 +1,22 @@
 -- From a call to the line that writes it, and from what lines have led to to the promise. Assumes nothing.
-use Rattle.std.proofs.Common.{◌≡◌, ℕ, List, ◌∷◌, take, Some, None, Option, Result, sym, ap, ap₂, ◌∙◌, subst}
+use Rattle.std.proofs.Common.{◌≡◌, ℕ, List, take, Some, None, Option, Result, ap, ap₂, ◌∙◌, subst}
 use Rattle.std.proofs.Math.Logic.{∥∥₁_map}
 use Rattle.quorum.specs.declared.either.EitherRule.{EitherRule}
 use Rattle.quorum.specs.declared.either.EitherRule.TheVariants.{Count, Listed}
 use Rattle.quorum.specs.Good.{count-good, listed-good}
 use Rattle.quorum.specs.Meaning.{either-rule}
-use Rattle.quorum.specs.Rules.{Rule, Lawful}
+use Rattle.quorum.specs.Rules.{Lawful}
 use Rattle.lines.specs.Calls as lines
 use Rattle.lines.specs.Lines.{call-in}
 use Rattle.group.specs.declared.group.Group.{Group}
 use Rattle.group.proofs.Promised.{promised}
 use Rattle.session.specs.declared.fault.SessionFault.{SessionFault}
 use Rattle.session.specs.declared.reply.Played.{Played}
-use Rattle.session.specs.declared.reply.Reply.{Reply}
 use Rattle.session.specs.Standing.{Standing, nothing-open, stands-open, stands-with, stands-after}
 use Rattle.session.specs.declared.letter.Letter.{Letter}
 use Rattle.session.specs.Letters.{letter-of}
-use Rattle.session.specs.Replies.{answer-of, reply-of}
-use Rattle.session.specs.Shown.{Shows, Led-by, Led, Plays-call, Plays-line, Promised, Keeps-the-promise}
+use Rattle.session.specs.Replies.{reply-of}
+use Rattle.session.specs.Shown.{Shows, Led, Plays-call, Plays-line, Promised, Keeps-the-promise}
 
 pub line-plays : (g h : Option (Group EitherRule)) (line : List ℕ) (x : lines.Call) (letter : Letter) (r : Result Played SessionFault)
     → x ≡ call-in line → letter ≡ letter-of x → Plays-call g x h r → Plays-line g line h (record { letter = letter; answer = r })

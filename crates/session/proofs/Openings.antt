@@ -1,20 +1,16 @@
 -- What it says that something, or nothing, stands against the opening of a line. Assumes nothing.
-use Rattle.std.proofs.Common.{◌≡◌, ℕ, ◌<◌, ◌≤◌, ◌*◌, Bool, true, false, cond, not, ◌&&◌, ltb, List, [], ◌∷◌, length, get_or, take, Some, None, Option, sym, refl, ap, ap₂, ◌∙◌, subst, arith}
+use Rattle.std.proofs.Common.{◌≡◌, ℕ, ◌<◌, Bool, true, false, cond, not, ◌&&◌, List, length, get_or, take, Some, None, Option, sym, refl, ap, ap₂, ◌∙◌, subst}
 use Rattle.std.proofs.lemmas.Bool.{cond-true}
 use Rattle.std.proofs.lemmas.List.{get_or-take}
 use Rattle.vote.specs.declared.Method.{Method}
 use Rattle.vote.specs.declared.Method.TheVariants.{Plain, Echo}
 use Rattle.vote.proofs.Options.{holds-none}
 use Rattle.wire.specs.Fields.{is_within}
-use Rattle.quorum.specs.declared.either.EitherRule.{EitherRule}
 use Rattle.quorum.specs.declared.fault.RuleFault.{RuleFault}
-use Rattle.quorum.specs.declared.fault.RuleFault.TheVariants.{Crew, Sets, WholeCrew}
-use Rattle.quorum.specs.Counting.{count-rule}
-use Rattle.quorum.specs.Faults.{size-fault}
+use Rattle.quorum.specs.declared.fault.RuleFault.TheVariants.{Sets, WholeCrew}
 use Rattle.quorum.specs.Limits.{crew-fits, cover-fits}
 use Rattle.quorum.specs.Listing.{sets-fit, held}
-use Rattle.quorum.specs.Rules.{Rule}
-use Rattle.board.specs.declared.fault.BoardFault.TheVariants.{Characters, Depth, Start}
+use Rattle.board.specs.declared.fault.BoardFault.TheVariants.{Start}
 use Rattle.board.specs.Fitting.{echo-under-two}
 use Rattle.lines.specs.Calls.{Failing, by_count, by-sets, Opening}
 use Rattle.group.specs.declared.fault.GroupFault.{GroupFault}

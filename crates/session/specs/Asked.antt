@@ -9,9 +9,10 @@ use Rattle.lines.specs.Calls.{Failing, by_count, by-sets, Opening}
 use Rattle.group.specs.declared.fault.GroupFault.TheVariants.{Opening as Against}
 use Rattle.group.specs.declared.opening.Opening as asked
 use Rattle.std.specs.Prelude.{ℕ}
+use Rattle.group.specs.Calls.{first-failed}
 use Rattle.session.specs.declared.fault.SessionFault.{SessionFault}
 use Rattle.session.specs.declared.fault.SessionFault.TheVariants.{Rule as Of-rule, Group as Of-group}
-use Rattle.session.specs.Opening.{cover-of, group-number, change-number, first-failed}
+use Rattle.session.specs.Opening.{cover-of, group-number, change-number}
 
 abbrev pub failing-fault : ℕ → ℕ → Failing → Option RuleFault
 failing-fault n c (by_count f) = count-fault n c f

@@ -1,5 +1,5 @@
 -- What a line that opens a group asks for, and what stands against it, by rising number across rule and group. Assumes nothing.
-use Rattle.std.specs.Prelude.{ℕ, ◌*◌, Bool, true, cond, not, List, [], ◌∷◌, Some, None, Option, nat_lt}
+use Rattle.std.specs.Prelude.{ℕ, ◌*◌, Bool, true, not, [], ◌∷◌, Option, nat_lt}
 use Rattle.vote.specs.declared.Method.{Method}
 use Rattle.vote.specs.declared.Method.TheVariants.{Plain, Echo}
 use Rattle.wire.specs.Fields.{is_within}
@@ -10,6 +10,7 @@ use Rattle.quorum.specs.Listing.{listed-rule, sets-fit, held}
 use Rattle.board.specs.declared.fault.BoardFault.TheVariants.{Characters, Depth, Start}
 use Rattle.lines.specs.Calls.{Failing, by_count, by-sets, Opening}
 use Rattle.group.specs.declared.fault.GroupFault.TheVariants.{Opening as Against, Family}
+use Rattle.group.specs.Calls.{first-failed}
 use Rattle.group.specs.Sound.{all-characters}
 use Rattle.session.specs.declared.fault.SessionFault.{SessionFault}
 use Rattle.session.specs.declared.fault.SessionFault.TheVariants.{Rule as Of-rule, Group as Of-group}
@@ -43,11 +44,6 @@ crew-spared n c (by-sets ss) = not (held n ss c 0)
 
 unfoldable pub rule-of : Opening → Rule
 rule-of o = failing-rule o.crew (cover-of o.method) o.failing
-
--- the fault of the first test that fails
-abbrev pub first-failed : List (Bool × SessionFault) → Option SessionFault
-first-failed [] = None
-first-failed (t ∷ ts) = cond t.0 (first-failed ts) (Some t.1)
 
 unfoldable pub opening-fault : Opening → Option SessionFault
 opening-fault o = first-failed (

@@ -7,7 +7,6 @@ use Rattle.lines.specs.Calls.{Opening}
 use Rattle.lines.specs.Lines.{call-in}
 use Rattle.group.specs.declared.group.Group.{Group}
 use Rattle.group.specs.declared.opening.Opening as asked
-use Rattle.group.specs.declared.terms.Terms.{Terms}
 use Rattle.group.specs.Calls.{Call, answered}
 use Rattle.group.specs.Opening.{Settles}
 use Rattle.group.specs.Promises.{Reached, Promise}

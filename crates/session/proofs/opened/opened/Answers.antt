@@ -1,6 +1,6 @@
-use Rattle.std.proofs.Common.{◌≡◌, ℕ, ◌≤◌, length, [], None, Some, sym, ap, ◌∙◌, subst, arith}
+use Rattle.std.proofs.Common.{◌≡◌, ℕ, ◌≤◌, [], None, Some, sym, ap, ◌∙◌, subst}
 use Rattle.std.proofs.lemmas.Result.{err_from_is_err_and}
-use Rattle.lines.specs.Told.{opening_of, starts-of}
+use Rattle.lines.specs.Told.{opening_of}
 use Rattle.quorum.specs.Meaning.{either-rule}
 use Rattle.quorum.specs.Rules.{Rule}
 use Rattle.wire.proofs.FrameText.{within-parts}
