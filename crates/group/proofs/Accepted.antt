@@ -80,6 +80,7 @@ module _ (R : Rule) (o : Opening) (none : opening-fault R o ≡ None) where
     pub numbers : length o.starts ≡ 16 → Good-opening R.crew o
     pub crew-fits : R.crew ≤ 16
     pub cover-suffices : needed-cover o.method ≤ R.cover
+    pub cover-fits : R.cover ≤ 3
     pub listed-may-fail : R.fails o.listed ≡ true
 
   pub accepted-parts : Accepted
@@ -113,6 +114,7 @@ module _ (R : Rule) (o : Opening) (none : opening-fault R o ≡ None) where
         };
         crew-fits = high;
         cover-suffices = cover-needed o.method R.cover (within-parts 2 3 R.cover cover.0).0 method.0;
+        cover-fits = (within-parts 2 3 R.cover cover.0).1;
         listed-may-fail = family.0;
       }
 
@@ -122,6 +124,7 @@ module _ (R : Rule) (o : Opening) (none : opening-fault R o ≡ None) where
       record {
         crew-fits = a.crew-fits;
         cover-suffices = subst (λ (m : Method). needed-cover m ≤ R.cover) (sym s.method) a.cover-suffices;
+        cover-fits = a.cover-fits;
         listed-may-fail = ap R.fails s.listed ∙ a.listed-may-fail;
       }
 

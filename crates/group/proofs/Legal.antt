@@ -28,7 +28,7 @@ module _ {R : Rule} {T : Terms} (law : Lawful R) (accepted : Opened R T) where
   unfoldable pub crew : Crew (setting-in R T)
   crew = record { lawful = law; fits = accepted.crew-fits; listed = T.listed; may_fail = accepted.listed-may-fail }
 
-  abbrev Legal-run : List Event → Type 0
+  abbrev pub Legal-run : List Event → Type 0
   Legal-run r = Legal (method-in R T) crew r
 
   -- a posted word is one that a frame can carry

@@ -4,6 +4,7 @@ pub mod Boards
 pub mod Shown
 pub mod Faultless
 pub mod Legal
+pub mod Carried
 pub mod Standing
 pub mod Posted
 pub mod Bringing

@@ -6,9 +6,10 @@ use Rattle.agreement.specs.Promises.{Agreement}
 use Rattle.agreement.specs.Runs.{Event, Legal}
 use Rattle.agreement.proofs.Agreeing.{agreement}
 use Rattle.group.specs.declared.terms.Terms.{Terms}
-use Rattle.group.specs.Calls.{Call, run_of}
+use Rattle.group.specs.Calls.{Call, run_of, answered}
 use Rattle.group.specs.Promises.{Opened, Promise}
 use Rattle.group.specs.Terms.{setting-in, method-in, start-at}
+use Rattle.group.proofs.Carried.{carried-is-taken}
 use Rattle.group.proofs.Legal.{crew, run-legal, run-keeps, run-grown}
 
 module _ {R : Rule} {T : Terms} (law : Lawful R) (accepted : Opened R T) where
@@ -17,7 +18,7 @@ module _ {R : Rule} {T : Terms} (law : Lawful R) (accepted : Opened R T) where
   over_runs xs = agreement T.method (setting-in R T) accepted.cover-suffices (crew law accepted) (run_of R T xs) (run-legal law accepted xs)
 
   pub promised : (xs : List Call) → Promise R T xs
-  unfolding crew
+  unfolding crew answered
   promised xs =
       let p = over_runs xs in
       let M = method-in R T in
@@ -36,4 +37,5 @@ module _ {R : Rule} {T : Terms} (law : Lawful R) (accepted : Opened R T) where
             (subst (runs.Keeps-to M C (start-at T)) b.1 (λ j c hj q. run-keeps R T (zs ++ xs) j c q))
             u v (subst (λ (r : List Event). runs.Decided-on M C r u) a.1 du) (subst (λ (r : List Event). runs.Decided-on M C r v) b.1 dv);
         all-counted-all-decided = λ begun delivered. p.all-counted-all-decided begun delivered;
+        a-word-that-may-be-carried-is-taken = λ to from c v none. carried-is-taken law accepted (run_of R T xs) (run-legal law accepted xs) to from c v none;
       }

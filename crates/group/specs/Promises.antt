@@ -1,6 +1,6 @@
 -- What is promised of a group, over every list of calls since an accepted opening, the newest call first. Assumes nothing.
-use Rattle.std.specs.Prelude.{◌≡◌, ℕ, ◌<◌, ◌≤◌, true, false, ◌≢◌, ◌⊎◌, List, ◌∷◌, ◌++◌, Some, Option, Result}
-use Rattle.quorum.specs.Limits.{max-crew}
+use Rattle.std.specs.Prelude.{◌≡◌, ℕ, ◌<◌, ◌≤◌, true, false, ◌≢◌, ◌⊎◌, List, ◌∷◌, ◌++◌, Some, None, Option, Result, is_ok}
+use Rattle.quorum.specs.Limits.{max-crew, max-cover}
 use Rattle.quorum.specs.Sets.{member}
 use Rattle.quorum.specs.Rules.{Rule}
 use Rattle.vote.specs.declared.Decision.{Decision}
@@ -15,13 +15,14 @@ use Rattle.group.specs.declared.records.Records.{Records}
 use Rattle.group.specs.declared.terms.Terms.{Terms}
 use Rattle.group.specs.declared.turn.Turn.{Turn}
 use Rattle.group.specs.Terms.{method-in, start-at, lies}
-use Rattle.group.specs.Calls.{Call, run_of, after, answered}
+use Rattle.group.specs.Calls.{Call, carrying, run_of, after, fault-of, answered}
 
 module _ (R : Rule) (T : Terms) where
   -- the rule and the terms are those of an accepted opening
   pub record Opened : Type 0 where
     pub crew-fits : R.crew ≤ max-crew
     pub cover-suffices : needed-cover T.method ≤ R.cover
+    pub cover-fits : R.cover ≤ max-cover
     pub listed-may-fail : R.fails T.listed ≡ true
 
   -- ---- the words of the promise
@@ -68,6 +69,9 @@ module _ (R : Rule) (T : Terms) where
         ((i : ℕ) → Steady i → given (started-after xs i) ≡ true)
         → ((i j c v : ℕ) → Steady i → Steady j → Posted-after xs i c v → Counted-after xs j c v i)
         → (i : ℕ) → Steady i → given (decided-after xs i) ≡ true
+    -- a carry that none of the group's own numbers stands against is taken, so that whatever has been posted can be counted at all honest boards that have started
+    pub a-word-that-may-be-carried-is-taken :
+        (to from c v : ℕ) → fault-of R T (run_of R T xs) (carrying to from c v) ≡ None → is_ok (answered R T (carrying to from c v) xs) ≡ true
 
   -- ---- on the records
   -- the calls xs, all since an accepted opening, have led to these records

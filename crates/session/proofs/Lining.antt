@@ -1,6 +1,5 @@
 -- From a call to the line that writes it, and from what lines have led to to the promise. Assumes nothing.
 use Rattle.std.proofs.Common.{◌≡◌, ℕ, List, take, Some, None, Option, Result, ap, ap₂, ◌∙◌, subst}
-use Rattle.std.proofs.Math.Logic.{∥∥₁_map}
 use Rattle.quorum.specs.declared.either.EitherRule.{EitherRule}
 use Rattle.quorum.specs.declared.either.EitherRule.TheVariants.{Count, Listed}
 use Rattle.quorum.specs.Good.{count-good, listed-good}
@@ -39,4 +38,4 @@ shown-promised (Some g) (stands-open o xs) s = promised (subst Lawful s.rule (la
 
 -- what lines have led to keeps the promise
 pub led-keeps : (g : Option (Group EitherRule)) → ∥ Led g ∥₁ → Keeps-the-promise g
-led-keeps g led = ∥∥₁_map led (λ l. (l.0, l.1, shown-promised g (stands-after l.0) l.1))
+led-keeps g led = (led, λ ls l. shown-promised g (stands-after ls) l)

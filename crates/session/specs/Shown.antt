@@ -74,6 +74,6 @@ Promised None s = Unit {0}
 Promised (Some g) nothing-open = Unit {0}
 Promised (Some g) (stands-open o xs) = Promise (rule-of o) g.terms xs
 
--- Some lines have led to the group, and nothing else; and of what they have led to the whole promise holds.
+-- Some lines have led to the group, and nothing else; and whatever lines they are, of what they have led to the whole promise holds.
 abbrev pub Keeps-the-promise : Option (Group EitherRule) → Type 0
-Keeps-the-promise g = ∥ ((ls : List (List ℕ)) × Led-by g ls × Promised g (stands-after ls)) ∥₁
+Keeps-the-promise g = ∥ Led g ∥₁ × ((ls : List (List ℕ)) → Led-by g ls → Promised g (stands-after ls))
