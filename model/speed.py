@@ -224,7 +224,7 @@ class Comparison:
         return runs
 
     def count_all(self, sessions):
-        """The instructions of both programs on each of the sessions; counting does not mind what else runs."""
+        """The instructions of both programs on each of the sessions. They are the same whatever else runs."""
         with ThreadPoolExecutor(self.jobs) as pool:
             asked = [[pool.submit(instructions, program, session) for program in self.programs] for session in sessions]
             return [[count.result() for count in counts] for counts in asked]
@@ -254,7 +254,7 @@ def speed_table(comparison, session, rounds):
     short = comparison.write("short", front(contents(session), COUNTED_LINES))
     empty = comparison.write("empty", b"")
     counted, nothing = comparison.count_all((short, empty))
-    each = [(all_of_it - start) / COUNTED_LINES for all_of_it, start in zip(counted, nothing)]
+    each = [(total - start) / COUNTED_LINES for total, start in zip(counted, nothing)]
 
     clock = [lines / min(run[i].clock for run in runs) for i in range(2)]
     processor = [lines / min(run[i].processor for run in runs) for i in range(2)]
@@ -286,14 +286,14 @@ def growth_table(comparison, seed):
         sessions += [written(f"{before}", lines), written(f"{before} and more", lines + late)]
     tell("instructions of these")
     opening, *counts = comparison.count_all(sessions)
-    head = ["words before", "each of these: `bench`", "plain Rust"]
-    head += [f"each of {grouped(len(late))} new words behind them: `bench`", "plain Rust"]
+    head = ["words before", "each of them, `bench`", "each of them, plain Rust"]
+    head += ["each new word behind them, `bench`", "each new word behind them, plain Rust"]
     rows = []
     for before, without, more in zip(BEFORE, counts[::2], counts[1::2]):
         old = [(count - start) / before for count, start in zip(without, opening)]
         new = [(longer - shorter) / len(late) for longer, shorter in zip(more, without)]
         rows.append([grouped(number) for number in (before, *old, *new)])
-    return table(head, rows)
+    return f"The new words behind them are the same {grouped(len(late))} each time.\n\n{table(head, rows)}"
 
 
 def machine():
@@ -310,8 +310,8 @@ def measure(bench, asked):
         comparison.run_both(session)
         print(f"Machine: {machine()}.", f"Session: {described(session, comparison.path('output0'))}", sep="\n")
         print("\n" + speed_table(comparison, session, asked.rounds))
-        print("\nInstructions for each word, in one group of 16 boards in the echo method at depth 2:")
-        print("\n" + growth_table(comparison, asked.seed))
+        print("\nInstructions for each word, in one group of 16 boards in the echo method at depth 2.")
+        print(growth_table(comparison, asked.seed))
         print("\n" + RECORD_SIZES)
 
 

@@ -104,13 +104,13 @@ class Progress:
 
 
 def show_difference(bench, seed, first, count, session):
-    print(f"sessions {first} to {first + count - 1} of seed {seed} differ", flush=True)
+    print(f"sessions {first} to {first + count - 1} of seed {seed} differ; to repeat them:")
+    print(f"    compare.py {bench} --seed {seed} --sessions {first + count}", flush=True)
     if differs(bench, session):
         print("cut down:")
         show(bench, shrink(bench, session))
     else:
         print("but not when they are played again")
-    print(f"to repeat the round: compare.py {bench} --seed {seed} --sessions {first + count}")
 
 
 def soak(bench, seed, asked, progress, stopped):

@@ -37,7 +37,7 @@ abbrev pub Bounded : Setting → Protocol → Type 0
 Bounded S M = (s : ℕ) (h : List Vote) (c v : ℕ) → s ≤ S.characters → M.posts s h c v ≡ true → (1 ≤ c) × (c < 6) × (v ≤ S.characters)
 
 module _ {S : Setting} (M : Protocol) (C : Crew S) (bounded : Bounded S M) where
-  steady-honest : (i : ℕ) → Steady M C i → Honest M C i
+  pub steady-honest : (i : ℕ) → Steady M C i → Honest M C i
   steady-honest i si = (si.0, ap (λ (b : Bool). M.may-lie && b) si.1 ∙ none M.may-lie)
     where
       none : (b : Bool) → (b && false) ≡ false
@@ -117,7 +117,7 @@ module _ {S : Setting} (M : Protocol) (C : Crew S) (bounded : Bounded S M) where
 
   -- ---- count all
   -- how many words of any sender, kind and value are not counted at a board yet
-  uncounted : List Event → ℕ
+  pub uncounted : List Event → ℕ
   uncounted r =
       sum S.rule.crew (λ i. sum S.rule.crew (λ j. sum 6 (λ c. sum (suc S.characters) (λ v. miss (counted (history r j) c v i)))))
 
@@ -125,7 +125,7 @@ module _ {S : Setting} (M : Protocol) (C : Crew S) (bounded : Bounded S M) where
   unfolding history
   counted-later a w r j c v i p = grow (λ h. counted h c v i ≡ true) (eqb a j) w (history r j) (counted-more w (history r j) c v i) p
 
-  abbrev vote : ℕ → ℕ → ℕ → Vote
+  abbrev pub vote : ℕ → ℕ → ℕ → Vote
   vote i c v = record { sender = i; kind = c; value = v }
 
   counted-now : (r : List Event) (j c v i : ℕ) → counted (history (counts j (vote i c v) ∷ r) j) c v i ≡ true
@@ -134,7 +134,7 @@ module _ {S : Setting} (M : Protocol) (C : Crew S) (bounded : Bounded S M) where
       cond_both (eqb j j) (vote i c v ∷ history r j) (history r j) (λ h. counted h c v i ≡ true)
       (λ e. or_right (counted (history r j) c v i) _ (and_from _ _ (and_from _ _ (eq-eqb c c refl) (eq-eqb i i refl)) (eq-eqb v v refl))) (λ e. clash (eq-eqb j j refl) e)
 
-  fewer : (r : List Event) (i j c v : ℕ) → i < S.rule.crew → j < S.rule.crew → c < 6 → v ≤ S.characters → counted (history r j) c v i ≡ false
+  pub fewer : (r : List Event) (i j c v : ℕ) → i < S.rule.crew → j < S.rule.crew → c < 6 → v ≤ S.characters → counted (history r j) c v i ≡ false
       → uncounted (counts j (vote i c v) ∷ r) < uncounted r
   unfolding uncounted
   fewer r i j c v li lj lc lv p =
@@ -146,14 +146,14 @@ module _ {S : Setting} (M : Protocol) (C : Crew S) (bounded : Bounded S M) where
       (sum_lt (suc S.characters) _ _ (λ v'. le i j c v') v (omega (arith, lv)) (miss-lt _ _ p (counted-now r j c v i)))))
 
   -- a word that is still to be counted
-  abbrev Due : List Event → Type 0
+  abbrev pub Due : List Event → Type 0
   Due r =
       (i : ℕ) × (j : ℕ) × (c : ℕ) × (v : ℕ) × Steady M C i × Steady M C j × (c < 6) × (v ≤ S.characters) × (posted M r i c v ≡ true) × (counted (history r j) c v i ≡ false)
 
   fine : List Event → ℕ → ℕ → ℕ → ℕ → Bool
   fine r i j c v = not (steady i && (steady j && posted M r i c v)) || counted (history r j) c v i
 
-  due-or : (r : List Event) → Legal M C r → Due r ⊎ Steady-counted M C r
+  pub due-or : (r : List Event) → Legal M C r → Due r ⊎ Steady-counted M C r
   unfolding fine
   due-or r lg =
       ⊎_elim

@@ -97,21 +97,26 @@ module _ {R : Rule} {T : Terms} (law : Lawful R) (accepted : Opened R T) where
       ∙ (cond-true (is_within 1 (kinds-used T.method T.depth) c) _ _ (within-from 1 (kinds-used T.method T.depth) c l u)
       ∙ cond-true (is_within (least-value T.method c) T.characters v) _ _ (within-from (least-value T.method c) T.characters v w h)))
 
-  pub carried-is-taken : (r : List Event) → Legal-run law accepted r → (to from c v : ℕ) → fault-of R T r (carrying to from c v) ≡ None
-      → is_ok (answer R T r (carrying to from c v)) ≡ true
-  unfolding answer crew word-taken
-  carried-is-taken r lg to from c v none =
-      let m = may-carry R T r to from c v (ap (λ (f : Option GroupFault). given f) none) in
+  -- every board makes the word of the frame of a posted word
+  pub posted-is-taken : (r : List Event) → Legal-run law accepted r → (to from c v : ℕ) → from < R.crew → posted (method-in R T) r from c v ≡ true
+      → taken_at R T to from (frame-by R T from c v) ≡ Ok (record { group = T.group; change = T.change; sender = from; kind = c; value = v })
+  unfolding crew word-taken
+  posted-is-taken r lg to from c v inside sent =
       let M = method-in R T in
-      let s = posted-found M r from c v m.word-posted in
+      let s = posted-found M r from c v sent in
       let fits = start_fits M (crew law accepted) r lg from s.0 s.1 in
       let b = bounded T.method (setting-in R T) s.0 (history r from) c v fits.1 s.2 in
       let k = used (setting-in R T) T.method s.0 (history r from) c v fits.0 s.2 in
       let w : Word = record { group = T.group; change = T.change; sender = from; kind = c; value = v } in
-      let reads : word_in (frame-by R T from c v) ≡ Ok w = word-reads w (word-ranges law accepted r lg from c v m.sender.0 m.word-posted) in
-      let taken : taken_at R T to from (frame-by R T from c v) ≡ Ok w =
-      ap (λ (o : Option BoardFault). board.unless o (and_then (passed-up to (word_in (frame-by R T from c v))) (λ u. board.unless (word-fault (fit_at T to) from u) (Ok u)))) (port-open from m.sender.0)
+      let reads : word_in (frame-by R T from c v) ≡ Ok w = word-reads w (word-ranges law accepted r lg from c v inside sent) in
+      ap (λ (o : Option BoardFault). board.unless o (and_then (passed-up to (word_in (frame-by R T from c v))) (λ u. board.unless (word-fault (fit_at T to) from u) (Ok u)))) (port-open from inside)
       ∙ (ap (λ (q : Result Word FrameFault). and_then (passed-up to q) (λ u. board.unless (word-fault (fit_at T to) from u) (Ok u))) reads
-      ∙ ap (λ (o : Option BoardFault). board.unless o (Ok w)) (word-open to from c v b.0 k.0 k.1 b.2)) in
+      ∙ ap (λ (o : Option BoardFault). board.unless o (Ok w)) (word-open to from c v b.0 k.0 k.1 b.2))
+
+  pub carried-is-taken : (r : List Event) → Legal-run law accepted r → (to from c v : ℕ) → fault-of R T r (carrying to from c v) ≡ None
+      → is_ok (answer R T r (carrying to from c v)) ≡ true
+  unfolding answer
+  carried-is-taken r lg to from c v none =
+      let m = may-carry R T r to from c v (ap (λ (f : Option GroupFault). given f) none) in
       ap (λ (f : Option GroupFault). is_ok (unless f (told-by R T r (carrying to from c v)))) none
-      ∙ ap (λ (q : Result Word BoardFault). is_ok (told_with R T r to q)) taken
+      ∙ ap (λ (q : Result Word BoardFault). is_ok (told_with R T r to q)) (posted-is-taken r lg to from c v m.sender.0 m.word-posted)

@@ -5,6 +5,7 @@ pub mod Shown
 pub mod Faultless
 pub mod Legal
 pub mod Carried
+pub mod Onward
 pub mod Standing
 pub mod Posted
 pub mod Bringing

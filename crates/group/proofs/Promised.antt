@@ -10,6 +10,7 @@ use Rattle.group.specs.Calls.{Call, run_of, answered}
 use Rattle.group.specs.Promises.{Opened, Promise}
 use Rattle.group.specs.Terms.{setting-in, method-in, start-at}
 use Rattle.group.proofs.Carried.{carried-is-taken}
+use Rattle.group.proofs.Onward.{all-can-be-counted}
 use Rattle.group.proofs.Legal.{crew, run-legal, run-keeps, run-grown}
 
 module _ {R : Rule} {T : Terms} (law : Lawful R) (accepted : Opened R T) where
@@ -37,5 +38,6 @@ module _ {R : Rule} {T : Terms} (law : Lawful R) (accepted : Opened R T) where
             (subst (runs.Keeps-to M C (start-at T)) b.1 (λ j c hj q. run-keeps R T (zs ++ xs) j c q))
             u v (subst (λ (r : List Event). runs.Decided-on M C r u) a.1 du) (subst (λ (r : List Event). runs.Decided-on M C r v) b.1 dv);
         all-counted-all-decided = λ begun delivered. p.all-counted-all-decided begun delivered;
+        all-can-be-counted = let k = all-can-be-counted law accepted xs in (k.0, k.1.0, k.1.1);
         a-word-that-may-be-carried-is-taken = λ to from c v none. carried-is-taken law accepted (run_of R T xs) (run-legal law accepted xs) to from c v none;
       }

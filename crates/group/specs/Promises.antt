@@ -58,6 +58,13 @@ module _ (R : Rule) (T : Terms) where
     pub where-all-are-one : (v : ℕ) → ((i : ℕ) → Honest i → start-at T i ≡ v) → (d.value ≡ v) × (d.grade ≡ grades T.depth)
     pub none-or-one-of-them : None-decided d ⊎ ((1 ≤ d.grade) × (d.grade ≤ grades T.depth) × ((i : ℕ) × Honest i × (start-at T i ≡ d.value)))
 
+  -- every steady board has started; each word that a steady board has posted is counted at all steady boards
+  abbrev pub All-started : List Call → Type 0
+  All-started xs = (i : ℕ) → Steady i → given (started-after xs i) ≡ true
+
+  abbrev pub All-counted : List Call → Type 0
+  All-counted xs = (i j c v : ℕ) → Steady i → Steady j → Posted-after xs i c v → Counted-after xs j c v i
+
   -- ---- the promise, after the calls xs
   pub record Promise (xs : List Call) : Type 0 where
     pub decisions-at-most-one-step-apart :
@@ -65,10 +72,9 @@ module _ (R : Rule) (T : Terms) where
     pub decisions-in-the-span : (i : ℕ) (d : Decision) → Honest i → decided-after xs i ≡ Some d → In-span d
     -- whatever further calls ys are made in one way to go on, and zs in another
     pub the-first-decision-binds : Decided xs → (ys zs : List Call) (u v : ℕ) → Decided-on (ys ++ xs) u → Decided-on (zs ++ xs) v → u ≡ v
-    pub all-counted-all-decided :
-        ((i : ℕ) → Steady i → given (started-after xs i) ≡ true)
-        → ((i j c v : ℕ) → Steady i → Steady j → Posted-after xs i c v → Counted-after xs j c v i)
-        → (i : ℕ) → Steady i → given (decided-after xs i) ≡ true
+    pub all-counted-all-decided : All-started xs → All-counted xs → (i : ℕ) → Steady i → given (decided-after xs i) ≡ true
+    -- further calls can always bring that about
+    pub all-can-be-counted : (ys : List Call) × All-started (ys ++ xs) × All-counted (ys ++ xs)
     -- a carry that none of the group's own numbers stands against is taken, so that whatever has been posted can be counted at all honest boards that have started
     pub a-word-that-may-be-carried-is-taken :
         (to from c v : ℕ) → fault-of R T (run_of R T xs) (carrying to from c v) ≡ None → is_ok (answered R T (carrying to from c v) xs) ≡ true
