@@ -6,6 +6,7 @@ pub mod Faultless
 pub mod Legal
 pub mod Carried
 pub mod Onward
+pub mod Outside
 pub mod Standing
 pub mod Posted
 pub mod Bringing

@@ -95,6 +95,6 @@ module _ (R : Rule) (T : Terms) where
   unfoldable pub Plays : Call → Records → Records → Result Turn GroupFault → Type 0
   Plays x o p r = (xs : List Call) → Reached o xs → Plays-after x o p r xs
 
-  -- r is what board i of the crew has decided, whatever calls have led to the records
+  -- r is what board i has decided, whatever calls have led to the records; a board outside the crew decides nothing
   abbrev pub Tells-decided : Records → ℕ → Option Decision → Type 0
-  Tells-decided o i r = (xs : List Call) → Reached o xs → i < R.crew → r ≡ decided-after xs i
+  Tells-decided o i r = (xs : List Call) → Reached o xs → (r ≡ decided-after xs i) × (R.crew ≤ i → r ≡ None)

@@ -22,26 +22,6 @@ use Rattle.session.specs.Opening.{rule-of}
 use Rattle.session.specs.Replies.{group-says}
 use Rattle.session.specs.Shown.{asked-of, Shows-open, Calls}
 
--- nothing stands against a call that is accepted
-not-refused : (f : Option GroupFault) (t : Turn) (r : Result Turn GroupFault) → unless f r ≡ Ok t → given f ≡ false
-not-refused None t r e = refl
-not-refused (Some f) t r e = absurd (false≢true (ap is_ok e))
-
-module _ (R : Rule) (T : Terms) (xs : List Call) (t : Turn) where
-  accepted : (x : Call) → answered R T x xs ≡ Ok t → given (fault-of R T (run_of R T xs) x) ≡ false
-  unfolding answered group.answer
-  accepted x e = not-refused (fault-of R T (run_of R T xs) x) t _ e
-
-  -- the board that an accepted call names first is of the crew
-  pub start-inside : (i : ℕ) → answered R T (starting i) xs ≡ Ok t → i < R.crew
-  start-inside i e = (may-start R T (run_of R T xs) i (accepted (starting i) e)).honest.0
-
-  pub carry-inside : (to from k v : ℕ) → answered R T (carrying to from k v) xs ≡ Ok t → to < R.crew
-  carry-inside to from k v e = (may-carry R T (run_of R T xs) to from k v (accepted (carrying to from k v) e)).taker.0
-
-  pub forge-inside : (to from : ℕ) (bs : List ℕ) → answered R T (forging to from bs) xs ≡ Ok t → to < R.crew
-  forge-inside to from bs e = (may-forge R T (run_of R T xs) to from (accepted (forging to from bs) e)).taker.0
-
 module _ (g h : Group EitherRule) (x : Call) (i : ℕ) (same : (h.rule ≡ g.rule) × (h.terms ≡ g.terms)) where
   plays-at : (r : Result Turn GroupFault) → Plays (either-rule g.rule) g.terms x g.records h.records r
       → (o : Opening) (xs : List Call) → Shows-open g o xs → Plays-after (rule-of o) g.terms x g.records h.records r xs
@@ -60,15 +40,14 @@ module _ (g h : Group EitherRule) (x : Call) (i : ℕ) (same : (h.rule ≡ g.rul
   refuses e plays o xs s = (shows-on (Err e) plays o xs s, ap (group-says (rule-of o) g.terms x xs i) (plays-at (Err e) plays o xs s).answers)
 
   pub accepts : (t : Turn) (d : Option Decision) → Plays (either-rule g.rule) g.terms x g.records h.records (Ok t)
-      → ((R : Rule) (T : Terms) (xs : List Call) → answered R T x xs ≡ Ok t → i < R.crew)
       → Tells-decided (either-rule h.rule) h.terms h.records i d
       → Calls g x i h (Ok (record { words = t.words; decision = d }))
-  accepts t d plays inside tells o xs s =
+  accepts t d plays tells o xs s =
       let shown = shows-on (Ok t) plays o xs s in
       let says = (plays-at (Ok t) plays o xs s).answers in
       let told : Tells-decided (rule-of o) h.terms h.records i d = subst (λ (R : Rule). Tells-decided R h.terms h.records i d) shown.rule tells in
       let decided : d ≡ decided-after (rule-of o) g.terms (x ∷ xs) i =
-      told (x ∷ xs) shown.reached (inside (rule-of o) g.terms xs (sym says)) ∙ ap (λ (T : Terms). decided-after (rule-of o) T (x ∷ xs) i) same.1 in (
+      (told (x ∷ xs) shown.reached).0 ∙ ap (λ (T : Terms). decided-after (rule-of o) T (x ∷ xs) i) same.1 in (
         shown,
         ap (λ (k : Option Decision). Ok (record { words = t.words; decision = k })) decided ∙ ap (group-says (rule-of o) g.terms x xs i) says,
       )

@@ -1,6 +1,6 @@
 use Rattle.std.proofs.lemmas.Result.{err_from_is_err_and}
 use Rattle.group.specs.Calls.{carrying}
-use Rattle.session.proofs.Calling.{refuses, accepts, carry-inside}
+use Rattle.session.proofs.Calling.{refuses, accepts}
 use Rattle.session.proofs.calls.carried.Goals as goal
 
 pub returns-in_err-turn : goal.returns-in_err-turn
@@ -12,5 +12,4 @@ returns-in_err-turn c =
 pub returns : goal.returns
 returns c =
     let r = c.in_ok-turn.ensures in
-    accepts c.args.group.now c.carry.new.self (carrying c.args.to c.args.from c.args.kind c.args.value) c.args.to r.same c.in_ok-turn.turn c.decided.result r.plays
-    (λ R T xs e. carry-inside R T xs c.in_ok-turn.turn c.args.to c.args.from c.args.kind c.args.value e) c.decided.ensures
+    accepts c.args.group.now c.carry.new.self (carrying c.args.to c.args.from c.args.kind c.args.value) c.args.to r.same c.in_ok-turn.turn c.decided.result r.plays c.decided.ensures

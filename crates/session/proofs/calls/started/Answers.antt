@@ -1,6 +1,6 @@
 use Rattle.std.proofs.lemmas.Result.{err_from_is_err_and}
 use Rattle.group.specs.Calls.{starting}
-use Rattle.session.proofs.Calling.{refuses, accepts, start-inside}
+use Rattle.session.proofs.Calling.{refuses, accepts}
 use Rattle.session.proofs.calls.started.Goals as goal
 
 pub returns-in_err-turn : goal.returns-in_err-turn
@@ -12,5 +12,4 @@ returns-in_err-turn c =
 pub returns : goal.returns
 returns c =
     let r = c.in_ok-turn.ensures in
-    accepts c.args.group.now c.start.new.self (starting c.args.board) c.args.board r.same c.in_ok-turn.turn c.decided.result r.plays
-    (λ R T xs e. start-inside R T xs c.in_ok-turn.turn c.args.board e) c.decided.ensures
+    accepts c.args.group.now c.start.new.self (starting c.args.board) c.args.board r.same c.in_ok-turn.turn c.decided.result r.plays c.decided.ensures
