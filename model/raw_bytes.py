@@ -42,8 +42,8 @@ class Wrong(Exception):
 class Program:
     name = ""
     most_memory = None  # in bytes, where a bound is promised
-    start = b""  # good lines that begin an input
-    start_answer = b""  # what is answered to the first of them
+    starts = (b"",)  # lines that an input can begin with; those of the first are good
+    start_answer = b""  # what is answered to the first line of the first
     alphabet = b""  # the bytes of good lines, some more often than others
 
     def good_line(self, rng):
@@ -75,7 +75,7 @@ def numbers(*fields):
 class Bench(Program):
     name = "bench"
     most_memory = 32 * MEGABYTE
-    start = b"o,e,2,4,1,3,8,1,2,1,3\ns,0\ns,1\ns,2\n"
+    starts = (b"o,e,2,4,1,3,8,1,2,1,3\ns,0\ns,1\ns,2\n", b"g,p,2,3,1,3,1,1,1,2,3\ns,0\n", b"o,p,1,1,0,3,0,3\n")
     start_answer = b"o,0,0,-,-\n"
     alphabet = b"01230123456789,,,,,,,,scfogpe\n\n\n"
     answer = re.compile(
@@ -89,10 +89,10 @@ class Bench(Program):
             return b"s," + numbers(to)
         if which < 0.5:
             return b"c," + numbers(to, sender, kind, value)
-        if which < 0.9:
+        if which < 0.98:
             return b"f," + numbers(to, 3, 1, 1, 3, kind, value)
-        if which < 0.95:
-            return b"o,p," + numbers(2, 3, 1, 3, 0, 1, 2, rng.randint(1, 4))
+        if which < 0.99:
+            return rng.choice((b"o,e,2,4,1,3,8,1,2,1,3", b"o,e,1,4,1,3,8,3,2,1,1", b"g,p,2,3,1,3,1,1,1,2,3"))
         crew = rng.randint(50, 56)
         starts = [1] * crew
         starts[0] = rng.choice((1, 10))
@@ -107,7 +107,7 @@ class Bench(Program):
 
 class Frames(Program):
     name = "frames"
-    start = b"1,1,0,1,3\n"
+    starts = (b"1,1,0,1,3\n",)
     start_answer = b"1: word group=1 change=1 sender=0 kind=1 value=3\n"
     alphabet = b"01123456789,,,,,,,,,\n\n"
     answer = re.compile(
@@ -138,7 +138,7 @@ class Frames(Program):
 
 class RuleCheck(Program):
     name = "rule_check"
-    start = b"l,6,3,4,3,12,16,32\n"
+    starts = (b"l,6,3,4,3,12,16,32\n", b"c,4,3,1\n", b"c,16,2,7\n", b"l,1,2,0\n", b"l,6,3,9,1,1,1,1,1,1,1,1,1\n")
     start_answer = b"good\n"
     alphabet = b"00123456789,,,lc\n\n\n"
     first = re.compile(rb"(?P<more>good)\n|refused [1345]\n|unreadable\n")
@@ -159,7 +159,7 @@ class RuleCheck(Program):
 
 class BoardBench(Program):
     name = "board_bench"
-    start = b"e,2,4,3,1,3,7,12,0,3\n"
+    starts = (b"e,2,4,3,1,3,7,12,0,3\n", b"p,2,4,2,1,3,7,12,0,3\n", b"e,1,4,3,1,3,7,12,3,1\n", b"p,1,4,2,2,3,7,12,0,3\n")
     start_answer = b"started 1\n"
     alphabet = b"0123712712,,,,,,,,,ep\n\n"
     first = re.compile(rb"started (?P<posted>[0-9]+)\n|refused [1-9]\n|unreadable\n")
@@ -227,7 +227,7 @@ def many_digits(rng, line):
     spans = [number.span() for number in re.finditer(rb"[0-9]+", line)]
     begin, end = rng.choice(spans or [(0, 0)])
     digits = rng.choice((b"0123456789", b"0123456789", b"0", b"1", b"9"))
-    return line[:begin] + bytes(rng.choices(digits, k=rng.randint(100, 999))) + line[end:]
+    return line[:begin] + bytes(rng.choices(digits, k=rng.choice((105, rng.randint(100, 999))))) + line[end:]
 
 
 # The inputs, each made block by block.
@@ -333,8 +333,8 @@ def feed_missing(rng, program, size):
 
 
 def short(rng, program, size):
-    """A good start and some lines, with faults; sometimes it begins or ends in the middle."""
-    lines = program.start.splitlines() + [program.good_line(rng) for _ in range(rng.randint(0, 8))]
+    """A start and some lines, with faults; sometimes the beginning is missing, or the last line feed."""
+    lines = rng.choice(program.starts).splitlines() + [program.good_line(rng) for _ in range(rng.randint(0, 8))]
     for _ in range(rng.choice((0, 1, 1, 2, 4))):
         i = rng.choice((0, rng.randrange(len(lines))))
         how = rng.random()
@@ -369,7 +369,7 @@ def inputs_for(program, size):
     """For each input its name, what makes it, how many there are, and the start in front of it."""
     for name, make in INPUTS.items():
         yield name, make, 1, b""
-        yield f"{name}, good start", make, 1, program.start
+        yield f"{name}, good start", make, 1, program.starts[0]
     yield f"{size.shorts} short inputs", short, size.shorts, b""
 
 

@@ -5,6 +5,7 @@ use Rattle.vote.specs.declared.News.{News}
 use Rattle.vote.specs.declared.Vote.{Vote}
 use Rattle.wire.specs.declared.posted.Posted.{Posted}
 use Rattle.wire.specs.declared.word.Word.{Word}
+use Rattle.wire.specs.Frames.{frame-of}
 use Rattle.wire.specs.Slips.{none-posted}
 use Rattle.board.specs.declared.fit.Fit.{Fit}
 use Rattle.board.specs.declared.record.Record.{Record}
@@ -37,7 +38,7 @@ pub record Took (R : Rule) (f : Fit) (o p : Record) (told : Taken) (slip : Poste
   pub tells : told ≡ told_of (answer-of R f h w)
   pub slips : slip ≡ slip-of f (answer-of R f h w)
 
--- an accepted frame is the one of its word, and its vote is counted; a refused one leaves the record
+-- an accepted frame is the one of its word, and its vote is counted
 abbrev pub Accepts : Rule → Fit → ℕ → List ℕ → Record → Record → Taken → Posted → Type 0
 Accepts R f port xs o p told slip =
-    (w : Word) × (word-taken R f port xs ≡ Ok w) × ((h : List Vote) → o ≡ record_of R f h → Took R f o p told slip (vote-of w) h)
+    (w : Word) × (word-taken R f port xs ≡ Ok w) × ((h : List Vote) → o ≡ record_of R f h → Took R f o p told slip (vote-of w) h) × (xs ≡ frame-of w)

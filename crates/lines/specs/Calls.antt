@@ -7,7 +7,7 @@ pub data Failing : Type 0 where
   by_count : ℕ → Failing
   by-sets : List ℕ → Failing
 
--- characters says up to which number characters go, bad is the set of boards that may say anything, starts has the character that each board starts from
+-- characters says up to which number characters go, bad is the set of boards listed bad, starts has the character that each board starts from
 pub record Opening : Type 0 where
   pub method : Method
   pub depth : ℕ

@@ -1,4 +1,4 @@
-// Lines that open a group. Five numbers lead: depth, crew, what the boards fail by, characters, and the set of the boards that may say anything.
+// Lines that open a group. Five numbers lead: depth, crew, what the boards fail by, characters, and the set of boards listed bad.
 ghost use Rattle.std.specs.Prelude.{◌≡◌, ℕ, ◌<◌, List, length};
 ghost use Rattle.lines.specs.Items.{items};
 ghost use Rattle.lines.specs.Lines.{open-by-count, open-by-sets, opened_in};
