@@ -1,7 +1,7 @@
 -- The listed rule: the boards of one listed set may fail together. Assumes nothing.
-use Rattle.std.specs.Prelude.{ℕ, zero, suc, Bool, ◌&&◌, ◌||◌, List, length, ◌==◌, bit_or, nat_le}
+use Rattle.std.specs.Prelude.{◌≡◌, ℕ, zero, suc, ◌<◌, Bool, true, ◌&&◌, ◌||◌, List, length, ◌==◌, bit_or, nat_le}
 use Rattle.quorum.specs.Limits.{max-listed}
-use Rattle.quorum.specs.Sets.{part, inCrew, whole, anyPasses, allPass}
+use Rattle.quorum.specs.Sets.{part, inCrew, whole, in_some, anyPasses, allPass}
 use Rattle.quorum.specs.Rules.{Rule}
 
 -- s is the empty set or a part of a listed set
@@ -19,3 +19,8 @@ sets-fit n ms = nat_le (length ms) max-listed && allPass (inCrew n) ms
 unfoldable pub held : ℕ → List ℕ → ℕ → ℕ → Bool
 held n ms zero a = whole n a
 held n ms (suc c) a = whole n a || anyPasses (λ m. held n ms c (bit_or a m)) ms
+
+-- Where c listed sets are said to hold the whole crew of n, there are c sets, each empty or a part of a listed set, and every board is in some of them.
+unfoldable pub Held-means-it : ℕ → List ℕ → ℕ → Type 0
+Held-means-it n ms c =
+    held n ms c 0 ≡ true → (ss : List ℕ) × (length ss ≡ c) × (allPass (listed ms) ss ≡ true) × ((i : ℕ) → i < n → in_some i ss ≡ true)

@@ -7,7 +7,7 @@ use crate::limits::MAX_CREW;
 use crate::rule::FailureRule;
 use crate::set::outside;
 
-// Whether some board of the set is sure not to fail.
+// Whether, whatever fails together, some board of the set does not.
 pub fn strong<R: FailureRule>(rule: &R, set: u16) -> bool
     ensures value { result ≡ isStrong (R.meaning rule.now) set }
     ensures facts { Strong-sets-hold (R.meaning rule.now) }

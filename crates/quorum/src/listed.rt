@@ -2,7 +2,7 @@
 ghost use Rattle.std.specs.Prelude.{◌≡◌, ◌≤◌, false, length, take, is_some};
 ghost use Rattle.quorum.specs.Limits.{max-crew, max-listed};
 ghost use Rattle.quorum.specs.Sets.{part, anyPasses};
-ghost use Rattle.quorum.specs.Listing.{sets-fit, held, listed-rule};
+ghost use Rattle.quorum.specs.Listing.{sets-fit, held, listed-rule, Held-means-it};
 ghost use Rattle.quorum.specs.Faults.{listed-fault, Made};
 ghost use Rattle.quorum.specs.Good.{listed-good};
 
@@ -70,8 +70,10 @@ fn in_one(sets: &[u16], set: u16) -> bool
 }
 
 // What stands against a listed rule of these numbers and sets, the lowest number first, if anything does.
+#[tactic(auto, using(crate::proofs::Holders::held_means_it))]
 pub fn listed_fault(crew: u16, cover: u16, sets: &[u16]) -> Option<RuleFault>
-    ensures { result ≡ listed-fault crew cover sets.now }
+    ensures value { result ≡ listed-fault crew cover sets.now }
+    ensures a_crew_that_is_not_spared_is_held_by_listed_sets { Held-means-it crew sets.now cover }
 {
     if let Some(fault) = size_fault(crew, cover) {
         return Some(fault);
