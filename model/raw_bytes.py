@@ -27,7 +27,7 @@ ROOT = Path(__file__).resolve().parent.parent
 MEGABYTE = 2**20
 BLOCK = 65536  # bytes of an input that are made at a time
 PATIENCE = 60  # seconds for one run
-LARGEST_OUTPUT = 2**30  # bytes; a program that writes without end is stopped there
+LARGEST_OUTPUT = 2**28  # bytes; a program that writes without end is stopped there
 LONGEST_ANSWER = 200  # bytes; no line of any program has as many
 LIMIT = 120  # bytes of a session line
 
@@ -159,7 +159,7 @@ class RuleCheck(Program):
 
 class BoardBench(Program):
     name = "board_bench"
-    starts = (b"e,2,4,3,1,3,7,12,0,3\n", b"p,2,4,2,1,3,7,12,0,3\n", b"e,1,4,3,1,3,7,12,3,1\n", b"p,1,4,2,2,3,7,12,0,3\n")
+    starts = (b"e,2,4,3,1,3,7,12,0,3\n", b"p,2,4,2,1,3,7,12,0,3\n", b"p,1,4,2,1,3,7,12,0,3\n")
     start_answer = b"started 1\n"
     alphabet = b"0123712712,,,,,,,,,ep\n\n"
     first = re.compile(rb"started (?P<posted>[0-9]+)\n|refused [1-9]\n|unreadable\n")
@@ -429,7 +429,7 @@ def check_run(program, start, lines, status, peak, folder):
     if status is None:
         raise Wrong(f"did not end within {PATIENCE} seconds")
     if status != 0:
-        raise Wrong(f"ended with status {status} {complaint or ''}")
+        raise Wrong(f"ended with status {status}" + (f", complains {complaint}" if complaint else ""))
     if complaint:
         raise Wrong(f"complains {complaint}")
     with open(folder / "out", "rb") as file:
@@ -454,36 +454,54 @@ def keep_files(keep, program, name, number, folder):
 # The table.
 
 
-def row(program, name, length, lines, seconds, peak, result):
-    return f"{program:<12} {name:<39} {length:>7} {lines:>8} {seconds:>8} {peak:>8}  {result}"
+def row(program, name, size, lines, seconds, peak, result):
+    return f"{program:<12} {name:<39} {size:>7} {lines:>8} {seconds:>8} {peak:>8}  {result}"
 
 
 def megabytes(count):
     return f"{count / MEGABYTE:.1f}"
 
 
+class Row:
+    """What came of the inputs of one name."""
+
+    def __init__(self):
+        self.bytes = self.lines = self.failures = 0
+        self.seconds = 0.0
+        self.peak = 0
+        self.result = "good"
+
+    def text(self, program, name):
+        seconds = f"{self.seconds:.2f}"
+        return row(program.name, name, megabytes(self.bytes), self.lines, seconds, megabytes(self.peak), self.result)
+
+    def fail(self, wrong):
+        """The first failure is told."""
+        if self.failures == 0:
+            self.result = str(wrong)
+        self.failures += 1
+
+
 def feed(program, path, size, seed, keep, folder):
-    """Feeds all inputs to a program and prints a line for each: how many failed, and the peak memory."""
-    failures = highest = 0
+    """Feeds a program all its inputs; yields a row for each name."""
     for name, make, count, start in inputs_for(program, size):
-        lengths = lines = seconds = peaks = 0
-        result = "good"
+        told = Row()
         for number in range(count):
             rng = random.Random(f"{seed}/{program.name}/{name}/{number}")
-            length, more = write_input(folder / "in", start, make(rng, program, size))
-            status, time_taken, peak = run(path, folder)
-            lengths, lines, seconds, peaks = lengths + length, lines + more, seconds + time_taken, max(peaks, peak)
+            length, lines = write_input(folder / "in", start, make(rng, program, size))
+            status, seconds, peak = run(path, folder)
+            told.bytes += length
+            told.lines += lines
+            told.seconds += seconds
+            told.peak = max(told.peak, peak)
             try:
-                check_run(program, start, more, status, peak, folder)
+                check_run(program, start, lines, status, peak, folder)
             except Wrong as wrong:
-                if result == "good":
-                    result = str(wrong)
-                failures += 1
+                told.fail(wrong)
                 if keep:
                     keep_files(keep, program, name, number, folder)
-        highest = max(highest, peaks)
-        print(row(program.name, name, megabytes(lengths), lines, f"{seconds:.2f}", megabytes(peaks), result), flush=True)
-    return failures, highest
+        print(told.text(program, name), flush=True)
+        yield told
 
 
 def main():
@@ -511,18 +529,18 @@ def main():
     print(f"seed {seed}{' --quick' if asked.quick else ''}")
     size = Size(asked.quick)
     failures = 0
-    peaks = {}
+    peaks = []
     with tempfile.TemporaryDirectory() as name:
         folder = Path(name)
         (folder / "in").touch()
         _, _, least = run(shutil.which("true"), folder)
         print(row("program", "input", "MB", "lines", "seconds", "peak MB", "result"))
         for program, path in paths.items():
-            failed, peaks[program.name] = feed(program, path, size, seed, asked.keep, folder)
-            failures += failed
-    print("peak MB: " + ", ".join(f"{name} {megabytes(peak)}" for name, peak in peaks.items()), end="")
-    print(f"; less than {megabytes(least)} cannot be told")
-    print(f"{failures} failures")
+            rows = list(feed(program, path, size, seed, asked.keep, folder))
+            failures += sum(told.failures for told in rows)
+            peaks.append(f"{program.name} {megabytes(max(told.peak for told in rows))}")
+    print(f"peak MB: {', '.join(peaks)}; less than {megabytes(least)} cannot be told")
+    print(f"{failures} failure{'' if failures == 1 else 's'}")
     return 1 if failures else 0
 
 

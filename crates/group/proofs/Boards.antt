@@ -32,7 +32,7 @@ module _ (R : Rule) (f : Fit) (port : ℕ) (xs : List ℕ) (o : Board) where
 
   pub board-takes : (s : Record) (taken : Taken) (slip : Posted) (d : Done) (t : Turn) → Accepts R f port xs o.state s taken slip → d ≡ done-of taken → t ≡ turn-of d slip
       → Board-takes R f port xs o (with-state s) (Ok t)
-  board-takes s taken slip d t (w, is, took) done turn = record {
+  board-takes s taken slip d t (w, is, took, own) done turn = record {
     stays-begun = refl;
     shows = λ h shown. (took h shown).shows ∙ ap (λ t. record_of R f (heard-with R f h t)) (sym is);
     tells = λ h shown.
@@ -42,7 +42,7 @@ module _ (R : Rule) (f : Fit) (port : ℕ) (xs : List ℕ) (o : Board) where
   -- no slip is too long
   pub slip-fits : (s : Record) (taken : Taken) (slip : Posted) (r : Result Turn (ℕ × BoardFault)) → Accepts R f port xs o.state s taken slip → Lawful R → f.characters ≤ 8
       → (length (words_of slip) * 19 ≤ 114 → false ≡ true) → Board-takes R f port xs o (with-state s) r
-  slip-fits s taken slip r (w, is, took) law low fits = record { stays-begun = refl; shows = λ h shown. absurd (never h shown); tells = λ h shown. absurd (never h shown) }
+  slip-fits s taken slip r (w, is, took, own) law low fits = record { stays-begun = refl; shows = λ h shown. absurd (never h shown); tells = λ h shown. absurd (never h shown) }
     where
       short : (p q : Posted) → p ≡ q → length (words_of q) * 19 ≤ 114 → length (words_of p) * 19 ≤ 114
       short p q e l = rw e l
