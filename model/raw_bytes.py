@@ -235,7 +235,7 @@ def many_digits(rng, line):
 
 class Size:
     def __init__(self, quick):
-        self.bytes = 300_000 if quick else 10_000_000  # of a long line, and of random bytes
+        self.bytes = MEGABYTE // 4 if quick else 10 * MEGABYTE  # of a long line, and of random bytes
         self.lines = 20_000 if quick else 1_000_000  # of a huge input
         self.shorts = 20 if quick else 250  # how many short inputs
 
@@ -262,7 +262,7 @@ def drawn(rng, program, count):
 
 def without_feeds(blocks):
     for block in blocks:
-        yield block.replace(b"\n", b"")
+        yield block.replace(b"\n", b",")
 
 
 def good_lines(rng, program, count):
