@@ -240,9 +240,9 @@ class Size:
         self.shorts = 20 if quick else 250  # how many short inputs
 
 
-def repeated(byte, count):
+def repeated(piece, count):
     while count > 0:
-        yield byte * min(count, BLOCK)
+        yield piece * min(count, BLOCK)
         count -= BLOCK
 
 
@@ -280,7 +280,7 @@ def random_bytes(rng, program, size):
     yield from any_bytes(rng, size.bytes)
 
 
-def bytes_of_format(rng, program, size):
+def pieceof_format(rng, program, size):
     yield from drawn(rng, program, size.bytes)
 
 
@@ -303,6 +303,12 @@ def no_feed(rng, program, size):
 
 def no_feed_random(rng, program, size):
     yield from without_feeds(any_bytes(rng, size.bytes))
+
+
+def many_numbers(rng, program, size):
+    """The first line of a start, which then goes on with number after number."""
+    yield program.starts[0].splitlines()[0]
+    yield from repeated(b",1", size.bytes // 2)
 
 
 def only_feeds(rng, program, size):
@@ -351,11 +357,12 @@ def short(rng, program, size):
 INPUTS = {
     "empty": nothing,
     "random bytes": random_bytes,
-    "bytes of the format": bytes_of_format,
+    "bytes of the format": pieceof_format,
     "lines with a byte changed": changed_lines,
     "very long lines": long_lines,
     "no line feed": no_feed,
     "no line feed, random bytes": no_feed_random,
+    "a line of very many numbers": many_numbers,
     "only line feeds": only_feeds,
     "only NULs": only_nuls,
     "lines of about 120 bytes": near_limit,

@@ -1,5 +1,5 @@
 // The senders of one kind of word.
-ghost use Rattle.std.specs.Prelude.{◌≡◌, ℕ, ◌<◌, ◌≤◌, []};
+ghost use Rattle.std.specs.Prelude.{◌≡◌, ℕ, ◌<◌, ◌≤◌, [], false};
 ghost use Rattle.quorum.specs.Limits.{max-crew};
 ghost use Rattle.quorum.specs.Sets.{member};
 ghost use Rattle.vote.specs.History.{seen};
@@ -52,9 +52,10 @@ impl Tally {
         self.all |= 1 << vote.sender;
     }
 
-    // Whether every sender's word bears the value, which is never above the greatest: a board asks this of values that words bore.
+    // Whether every sender's word bears the value; of one above the greatest none does.
     pub(crate) fn agrees_on(&self, value: u8) -> bool
-        ensures { value ≤ max-value → result ≡ agreed self.now value }
+        ensures value { value ≤ max-value → result ≡ agreed self.now value }
+        ensures beyond { max-value < value → result ≡ false }
     {
         if value > MAX_VALUE {
             return false;

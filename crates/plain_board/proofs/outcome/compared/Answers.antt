@@ -11,9 +11,9 @@ returns-then-branch-eq0 c = λ S x f low e.
 pub returns-then-agrees_on : goal.returns-then-agrees_on
 returns-then-agrees_on c = λ S x f low e.
     c.graded-then-agrees_on.ensures
-    ∙ compared-other S x c.args.branch true c.if-branch-eq0.false (sym c.if-agrees_on.true ∙ c.agrees_on.ensures low ∙ agreed-is S x 2 c.args.second.now e c.args.branch low)
+    ∙ compared-other S x c.args.branch true c.if-branch-eq0.false (sym c.if-agrees_on.true ∙ c.agrees_on.ensures.value low ∙ agreed-is S x 2 c.args.second.now e c.args.branch low)
 
 pub returns : goal.returns
 returns c = λ S x f low e.
     c.graded-2.ensures
-    ∙ compared-other S x c.args.branch false c.if-branch-eq0.false (sym c.if-agrees_on.false ∙ c.agrees_on.ensures low ∙ agreed-is S x 2 c.args.second.now e c.args.branch low)
+    ∙ compared-other S x c.args.branch false c.if-branch-eq0.false (sym c.if-agrees_on.false ∙ c.agrees_on.ensures.value low ∙ agreed-is S x 2 c.args.second.now e c.args.branch low)

@@ -15,13 +15,13 @@ returns-then-agrees_on c =
       low = omega arith;
       value = λ S x k f e.
           common-is S x k c.args.self.now e c.args.characters f (omega arith) (Some c.loop-v.v)
-          (walk-hits (agreed c.args.self.now) c.args.characters c.loop-v.v c.loop-v.invariant (sym (c.agrees_on.ensures low) ∙ c.if-agrees_on.true) (omega arith) (omega arith));
+          (walk-hits (agreed c.args.self.now) c.args.characters c.loop-v.v c.loop-v.invariant (sym (c.agrees_on.ensures.value low) ∙ c.if-agrees_on.true) (omega arith) (omega arith));
     }
 
 pub loop-v-preserved : goal.loop-v-preserved
 loop-v-preserved c =
     let low : c.loop-v.v ≤ 8 = omega arith in
-    walk-on (agreed c.args.self.now) c.loop-v.v c.loop-v.invariant (sym (c.agrees_on.ensures low) ∙ c.if-agrees_on.false)
+    walk-on (agreed c.args.self.now) c.loop-v.v c.loop-v.invariant (sym (c.agrees_on.ensures.value low) ∙ c.if-agrees_on.false)
 
 pub returns : goal.returns
 returns c = record {
