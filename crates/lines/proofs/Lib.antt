@@ -5,3 +5,4 @@ pub mod Calling
 pub mod MarkedCases
 pub mod Spelling
 pub mod Writing
+pub mod Readable

@@ -14,7 +14,7 @@ where-some : {A : Type 0} (b : Bool) (x y : A) → cond b (Some x) None ≡ Some
 where-some true x y e = (refl, cc)
 where-some false x y e = none-there e
 
-then_some : {A B : Type 0} (o : Option A) (f : A → Option B) (y : B) → and_then o f ≡ Some y → (x : A) × (o ≡ Some x) × (f x ≡ Some y)
+pub then_some : {A B : Type 0} (o : Option A) (f : A → Option B) (y : B) → and_then o f ≡ Some y → (x : A) × (o ≡ Some x) × (f x ≡ Some y)
 then_some None f y e = none-there e
 then_some (Some x) f y e = (x, refl, e)
 

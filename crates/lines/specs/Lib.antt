@@ -2,6 +2,7 @@ pub mod Parts
 pub mod Calls
 pub mod Lines
 pub mod Texts
+pub mod Readable
 pub mod Items
 pub mod Told
 pub mod Marked

@@ -3,6 +3,7 @@ ghost use Rattle.std.specs.Prelude.{◌≡◌};
 ghost use Rattle.lines.specs.Lines.{call-in};
 ghost use Rattle.lines.specs.Lines.{whole as is_whole};
 ghost use Rattle.lines.specs.Marked.{Marked-cases-hold};
+ghost use Rattle.lines.specs.Readable.{Each-call-is-readable};
 ghost use Rattle.lines.specs.Texts.{Writes};
 ghost use Rattle.lines.specs.Told.{call-of, Within};
 
@@ -30,6 +31,7 @@ pub fn read_line(line: &[u8]) -> Line
     ensures call { call-of line.now result ≡ call-in line.now }
     ensures within { Within line.now result }
     ensures a_readable_line_is_the_one_its_call_has { Writes line.now (call-of line.now result) }
+    ensures each_call_is_readable { Each-call-is-readable }
     ensures the_marked_cases_hold { Marked-cases-hold }
 {
     if !whole(line) {
