@@ -1,33 +1,31 @@
 -- Every list of calls can go on until all that the steady boards have posted is counted. Assumes nothing.
-use Rattle.std.proofs.Common.{◌≡◌, ℕ, zero, suc, ◌<◌, ◌≤◌, Bool, true, false, cond, not, ◌&&◌, ◌||◌, eqb, ltb, List, [], ◌∷◌, ◌++◌, Some, None, Ok, Option, Result, sym, refl, ap, ap₂, ◌∙◌, subst, ⊎_elim, append_assoc, le_of_suc-le-suc, not-suc-le-zero, eq-or-lt_of_le, arith}
-use Rattle.std.proofs.lemmas.Bool.{false≢true, eqb-true, eq-eqb, lt-ltb, cond_both, cond-true, cond-false, and_from, or_cases}
+use Rattle.std.proofs.Common.{◌≡◌, ℕ, zero, suc, ◌<◌, ◌≤◌, Bool, true, false, cond, not, ◌&&◌, ◌||◌, eqb, ltb, List, [], ◌∷◌, ◌++◌, Some, None, Option, sym, refl, ap, ap₂, ◌∙◌, subst, ⊎_elim, append_assoc, le_of_suc-le-suc, not-suc-le-zero, eq-or-lt_of_le, arith}
+use Rattle.std.proofs.lemmas.Bool.{eqb-true, eq-eqb, lt-ltb, cond_both, cond-true, cond-false, and_from}
 use Rattle.quorum.specs.Rules.{Rule, Lawful}
 use Rattle.quorum.specs.Truth.{clash}
 use Rattle.vote.specs.declared.Method.{Method}
 use Rattle.vote.specs.declared.Method.TheVariants.{Plain, Echo}
 use Rattle.vote.specs.declared.Vote.{Vote}
 use Rattle.vote.specs.History.{first, counted}
-use Rattle.vote.specs.Search.{is, given}
+use Rattle.vote.specs.Search.{given}
 use Rattle.vote.specs.Setting.{Setting, Protocol}
 use Rattle.vote.proofs.Counting.{first_counted}
-use Rattle.vote.proofs.Options.{given-found, given-from, else-right, when-from, holds-one, is_found}
+use Rattle.vote.proofs.Options.{given-found, given-from, else-right, when-from, holds-one}
 use Rattle.agreement.specs.Methods.{method-of}
 use Rattle.agreement.specs.Runs.{Event, starts, counts, start_of, history, posted, Crew, Honest, Legal}
 use Rattle.agreement.proofs.Agreeing.{bounded}
 use Rattle.agreement.proofs.Echo.Echoes.{echo-grows, posted-said}
-use Rattle.agreement.proofs.Going.{steady-honest, uncounted, fewer, vote, Due, due-or}
+use Rattle.agreement.proofs.Going.{uncounted, fewer, due-or}
 use Rattle.agreement.proofs.Plain.Postings.{posts-found, plain-grows}
 use Rattle.agreement.proofs.Running.{Grows, posted-found, start-later, sends}
 use Rattle.heard.specs.Repeats as echo-counts
-use Rattle.wire.specs.declared.word.Word.{Word}
-use Rattle.board.specs.declared.fault.BoardFault.{BoardFault}
 use Rattle.board.specs.Shown.{repeats}
 use Rattle.group.specs.declared.fault.GroupFault.{GroupFault}
 use Rattle.group.specs.declared.terms.Terms.{Terms}
-use Rattle.group.specs.Calls.{Call, starting, carrying, start-fault, carry-fault, fault-of, frame-by, taken_at, with-word, done-by, next, run_of}
+use Rattle.group.specs.Calls.{Call, starting, carrying, start-fault, carry-fault, with-word, done-by, next, run_of}
 use Rattle.group.specs.Promises.{Opened, Steady, All-started, All-counted}
 use Rattle.group.specs.Terms.{setting-in, method-in, start-at, lies}
-use Rattle.group.proofs.Legal.{crew, Legal-run, run-legal, run-grown}
+use Rattle.group.proofs.Legal.{crew, run-legal, run-grown}
 use Rattle.group.proofs.Carried.{posted-is-taken}
 
 -- ---- one word of a kind

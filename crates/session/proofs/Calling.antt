@@ -1,22 +1,17 @@
 -- From what the group promises of a call to what the session answers. Assumes nothing.
-use Rattle.std.proofs.Common.{◌≡◌, ℕ, ◌<◌, false, List, ◌∷◌, Some, None, Ok, Err, Option, Result, sym, refl, ap, ◌∙◌, subst}
-use Rattle.std.specs.Prelude.{is_ok}
-use Rattle.std.proofs.lemmas.Bool.{false≢true}
+use Rattle.std.proofs.Common.{◌≡◌, ℕ, List, ◌∷◌, Ok, Err, Option, Result, sym, ap, ◌∙◌, subst}
 use Rattle.quorum.specs.declared.either.EitherRule.{EitherRule}
 use Rattle.quorum.specs.Meaning.{either-rule}
 use Rattle.quorum.specs.Rules.{Rule}
 use Rattle.vote.specs.declared.Decision.{Decision}
-use Rattle.vote.specs.Search.{given}
 use Rattle.lines.specs.Calls.{Opening}
 use Rattle.group.specs.declared.fault.GroupFault.{GroupFault}
 use Rattle.group.specs.declared.group.Group.{Group}
 use Rattle.group.specs.declared.terms.Terms.{Terms}
 use Rattle.group.specs.declared.turn.Turn.{Turn}
-use Rattle.group.specs.Calls.{Call, starting, carrying, forging, run_of, fault-of, answered, unless}
-use Rattle.group.specs.Calls as group
+use Rattle.group.specs.Calls.{Call}
 use Rattle.group.specs.Opening.{Settles}
 use Rattle.group.specs.Promises.{Reached, Plays, Plays-after, Tells-decided, decided-after}
-use Rattle.group.proofs.Faultless.{may-start, may-carry, may-forge}
 use Rattle.session.specs.declared.fault.SessionFault.TheVariants.{Group as Of-group}
 use Rattle.session.specs.Opening.{rule-of}
 use Rattle.session.specs.Replies.{group-says}
