@@ -280,7 +280,7 @@ def random_bytes(rng, program, size):
     yield from any_bytes(rng, size.bytes)
 
 
-def pieceof_format(rng, program, size):
+def bytes_of_format(rng, program, size):
     yield from drawn(rng, program, size.bytes)
 
 
@@ -357,7 +357,7 @@ def short(rng, program, size):
 INPUTS = {
     "empty": nothing,
     "random bytes": random_bytes,
-    "bytes of the format": pieceof_format,
+    "bytes of the format": bytes_of_format,
     "lines with a byte changed": changed_lines,
     "very long lines": long_lines,
     "no line feed": no_feed,

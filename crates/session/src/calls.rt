@@ -8,7 +8,7 @@ ghost use Rattle.session.specs.Shown.{Calls, Plays-call};
 use crate::fault::SessionFault;
 use crate::opened::opened;
 use crate::reply::Played;
-use group::{Group, GroupFault, Turn};
+use group::{Group, GroupFault};
 use lines::Plan;
 use quorum::EitherRule;
 
