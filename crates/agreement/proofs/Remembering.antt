@@ -4,14 +4,14 @@ use Rattle.std.proofs.lemmas.Bool.{false≢true, or_right}
 use Rattle.vote.specs.declared.Vote.{Vote}
 use Rattle.vote.specs.History.{counted, memo, ever}
 use Rattle.vote.specs.Search.{given}
-use Rattle.vote.proofs.Options.{else-right}
+use Rattle.vote.proofs.Options.{else_right}
 
-pub memo-complete : {A : Type 0} (t : List Vote → Option A) (h : List Vote) (c v i : ℕ) → counted h c v i ≡ true → given (t h) ≡ true → given (memo t h) ≡ true
+pub memo_complete : {A : Type 0} (t : List Vote → Option A) (h : List Vote) (c v i : ℕ) → counted h c v i ≡ true → given (t h) ≡ true → given (memo t h) ≡ true
 unfolding memo counted
-memo-complete t [] c v i p q = absurd (false≢true p)
-memo-complete t (w ∷ h) c v i p q = else-right (memo t h) _ q
+memo_complete t [] c v i p q = absurd (false≢true p)
+memo_complete t (w ∷ h) c v i p q = else_right (memo t h) _ q
 
-pub ever-complete : (t : List Vote → Bool) (h : List Vote) (c v i : ℕ) → counted h c v i ≡ true → t h ≡ true → ever t h ≡ true
+pub ever_complete : (t : List Vote → Bool) (h : List Vote) (c v i : ℕ) → counted h c v i ≡ true → t h ≡ true → ever t h ≡ true
 unfolding ever counted
-ever-complete t [] c v i p q = absurd (false≢true p)
-ever-complete t (w ∷ h) c v i p q = or_right (ever t h) _ q
+ever_complete t [] c v i p q = absurd (false≢true p)
+ever_complete t (w ∷ h) c v i p q = or_right (ever t h) _ q

@@ -3,12 +3,12 @@ use Rattle.std.proofs.Common.{ℕ, List, inl, inr, ⊎_elim}
 use Rattle.vote.specs.declared.Decision.{Decision}
 use Rattle.vote.specs.Setting.{Setting, Protocol}
 use Rattle.agreement.specs.Runs.{Event, Crew}
-use Rattle.agreement.specs.Promises.{In-span, Started-with, Settled-as, Keeps-to}
+use Rattle.agreement.specs.Promises.{InSpan, StartedWith, SettledAs, KeepsTo}
 
 module _ {S : Setting} (M : Protocol) (C : Crew S) where
-  pub span-settled : (r : List Event) (start : ℕ → ℕ) (d : Decision) → Keeps-to M C start r → In-span M C (Started-with r) d → In-span M C (Settled-as start) d
-  span-settled r start d keeps p = record {
-    where-all-are-one = λ v all. p.where-all-are-one v (λ i s hi e. all i s hi (keeps i s hi e));
-    none-or-one-of-them =
-        ⊎_elim (λ n. inl n) (λ k. let b = k.2 in inr (k.0, k.1, (b.0, b.1, keeps b.0 d.value b.1 b.2))) p.none-or-one-of-them;
+  pub span_settled : (r : List Event) (start : ℕ → ℕ) (d : Decision) → KeepsTo M C start r → InSpan M C (StartedWith r) d → InSpan M C (SettledAs start) d
+  span_settled r start d keeps p = record {
+    where_all_are_one = λ v all. p.where_all_are_one v (λ i s hi e. all i s hi (keeps i s hi e));
+    none_or_one_of_them =
+        ⊎_elim (λ n. inl n) (λ k. let b = k.2 in inr (k.0, k.1, (b.0, b.1, keeps b.0 d.value b.1 b.2))) p.none_or_one_of_them;
   }

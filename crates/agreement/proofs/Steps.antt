@@ -1,17 +1,17 @@
 -- Pairs of decisions that are at most one step apart. Assumes nothing.
 use Rattle.std.proofs.Common.{◌≡◌, ◌⊎◌, sym, ◌∙◌, inl, inr}
 use Rattle.vote.specs.declared.Decision.{Decision}
-use Rattle.agreement.specs.Decisions.{None-decided, At-most-one-step}
+use Rattle.agreement.specs.Decisions.{NoneDecided, AtMostOneStep}
 
-pub same-decision : (d e : Decision) → d.value ≡ e.value → d.grade ≡ e.grade → d ≡ e
-same-decision d e p q = λ i. record { value = p i; grade = q i }
+pub same_decision : (d e : Decision) → d.value ≡ e.value → d.grade ≡ e.grade → d ≡ e
+same_decision d e p q = λ i. record { value = p i; grade = q i }
 
-pub both-none : (d e : Decision) → None-decided d → None-decided e → At-most-one-step d e
-both-none d e n m = inl (same-decision d e (n.0 ∙ sym m.0) (n.1 ∙ sym m.1))
+pub both_none : (d e : Decision) → NoneDecided d → NoneDecided e → AtMostOneStep d e
+both_none d e n m = inl (same_decision d e (n.0 ∙ sym m.0) (n.1 ∙ sym m.1))
 
 -- with one character, the grades are 1 or 2
-pub one-character : (d e : Decision) → d.value ≡ e.value → (d.grade ≡ 1) ⊎ (d.grade ≡ 2) → (e.grade ≡ 1) ⊎ (e.grade ≡ 2) → At-most-one-step d e
-one-character d e v (inl p) (inl q) = inl (same-decision d e v (p ∙ sym q))
-one-character d e v (inl p) (inr q) = inr (inl (inr (v, p, q)))
-one-character d e v (inr p) (inl q) = inr (inr (inr (sym v, q, p)))
-one-character d e v (inr p) (inr q) = inl (same-decision d e v (p ∙ sym q))
+pub one_character : (d e : Decision) → d.value ≡ e.value → (d.grade ≡ 1) ⊎ (d.grade ≡ 2) → (e.grade ≡ 1) ⊎ (e.grade ≡ 2) → AtMostOneStep d e
+one_character d e v (inl p) (inl q) = inl (same_decision d e v (p ∙ sym q))
+one_character d e v (inl p) (inr q) = inr (inl (inr (v, p, q)))
+one_character d e v (inr p) (inl q) = inr (inr (inr (sym v, q, p)))
+one_character d e v (inr p) (inr q) = inl (same_decision d e v (p ∙ sym q))

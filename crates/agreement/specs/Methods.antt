@@ -7,11 +7,11 @@ use Rattle.agreement.specs.Plain.{plain}
 use Rattle.agreement.specs.Echo.{echo}
 
 -- what the boards of a method do: the definitions that the boards' code is proved against
-abbrev pub method-of : Method → Setting → Protocol
-method-of Plain S = plain S
-method-of Echo S = echo S
+abbrev pub method_of : Method → Setting → Protocol
+method_of Plain S = plain S
+method_of Echo S = echo S
 
 -- the least cover of a rule under which the method agrees
-abbrev pub needed-cover : Method → ℕ
-needed-cover Plain = 2
-needed-cover Echo = 3
+abbrev pub needed_cover : Method → ℕ
+needed_cover Plain = 2
+needed_cover Echo = 3

@@ -5,7 +5,7 @@ use Rattle.vote.specs.declared.Decision.{Decision}
 use Rattle.vote.specs.declared.Method.{Method}
 use Rattle.vote.specs.declared.Vote.{Vote}
 use Rattle.vote.specs.Setting.{Setting}
-use Rattle.agreement.specs.Methods.{method-of}
+use Rattle.agreement.specs.Methods.{method_of}
 use Rattle.agreement.specs.Runs.{Event, starts, counts, decision, Crew, Legal}
 
 -- board j counts the vote of kind c and value v of board i
@@ -22,25 +22,25 @@ pub record Play : Type 0 where
   pub decides : Decision
 
 -- of one sender in the set and one kind, the board j counts w and the event has another board count another value
-abbrev pub told-another : ℕ → ℕ → Vote → Event → Bool
-told-another s j w (starts i c) = false
-told-another s j w (counts i u) =
+abbrev pub told_another : ℕ → ℕ → Vote → Event → Bool
+told_another s j w (starts i c) = false
+told_another s j w (counts i u) =
     member w.sender s && (u.sender == w.sender && (u.kind == w.kind && (not (i == j) && not (u.value == w.value))))
 
-abbrev pub some-event : (Event → Bool) → List Event → Bool
-some-event p [] = false
-some-event p (e ∷ r) = p e || some-event p r
+abbrev pub some_event : (Event → Bool) → List Event → Bool
+some_event p [] = false
+some_event p (e ∷ r) = p e || some_event p r
 
-abbrev pub two-faced : ℕ → List Event → Event → Bool
-two-faced s r (starts i c) = false
-two-faced s r (counts j w) = some-event (told-another s j w) r
+abbrev pub two_faced : ℕ → List Event → Event → Bool
+two_faced s r (starts i c) = false
+two_faced s r (counts j w) = some_event (told_another s j w) r
 
 -- there is such a crew, the run is legal there, it has a lie or has none, and board 0 decides as told
 abbrev pub Happens : Play → Type 0
 Happens p =
-    (C : Crew p.setting) × (C.listed ≡ p.listed) × Legal (method-of p.method p.setting) C (reverse p.events)
-    × (some-event (two-faced p.listed p.events) p.events ≡ p.lied) × (decision (method-of p.method p.setting) (reverse p.events) 0 ≡ Some p.decides)
+    (C : Crew p.setting) × (C.listed ≡ p.listed) × Legal (method_of p.method p.setting) C (reverse p.events)
+    × (some_event (two_faced p.listed p.events) p.events ≡ p.lied) × (decision (method_of p.method p.setting) (reverse p.events) 0 ≡ Some p.decides)
 
-abbrev pub All-happen : List Play → Type 0
-All-happen [] = Unit {0}
-All-happen (p ∷ ps) = Happens p × All-happen ps
+abbrev pub AllHappen : List Play → Type 0
+AllHappen [] = Unit {0}
+AllHappen (p ∷ ps) = Happens p × AllHappen ps

@@ -5,9 +5,9 @@
 
 #![tactic(auto)]
 
-ghost use Rattle.agreement.specs.Promises.{Agreement, Echo-binds-whatever-starts, Every-run-goes-on};
-ghost use Rattle.agreement.specs.Plain.Played.{Plain-runs-happen};
-ghost use Rattle.agreement.specs.Echo.Played.{Echo-runs-happen};
+ghost use Rattle.agreement.specs.Promises.{Agreement, EchoBindsWhateverStarts, EveryRunGoesOn};
+ghost use Rattle.agreement.specs.Plain.Played.{PlainRunsHappen};
+ghost use Rattle.agreement.specs.Echo.Played.{EchoRunsHappen};
 
 // In every run, honest boards never part: decisions at most one step apart, each in the span of the honest starting characters, the first one binding,
 // and a decision at every steady board once all that steady boards have posted is counted.
@@ -17,16 +17,16 @@ pub fn agreement_holds()
 
 // In the echo method the first decision binds even where boards that have not started yet may start with any character.
 pub fn echo_binds_whatever_starts()
-    ensures { Echo-binds-whatever-starts }
+    ensures { EchoBindsWhateverStarts }
 {}
 
 // Every run can go on until all that steady boards have posted is counted.
 pub fn every_run_goes_on()
-    ensures { Every-run-goes-on }
+    ensures { EveryRunGoesOn }
 {}
 
 // There are runs of either method that decide on a character, with each grade, and on none.
 pub fn runs_happen()
-    ensures plain { Plain-runs-happen }
-    ensures echo { Echo-runs-happen }
+    ensures plain { PlainRunsHappen }
+    ensures echo { EchoRunsHappen }
 {}

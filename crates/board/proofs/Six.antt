@@ -8,17 +8,17 @@ use Rattle.vote.specs.declared.Method.{Method}
 use Rattle.vote.specs.declared.Method.TheVariants.{Plain, Echo}
 use Rattle.vote.specs.declared.Vote.{Vote}
 use Rattle.vote.specs.Setting.{Setting}
-use Rattle.vote.specs.News.{news-of}
-use Rattle.plain_board.proofs.Kept.{marks-hold, ones_bit}
-use Rattle.echo_board.proofs.Facts.{echo-facts}
+use Rattle.vote.specs.News.{news_of}
+use Rattle.plain_board.proofs.Kept.{marks_hold, ones_bit}
+use Rattle.echo_board.proofs.Facts.{echo_facts}
 use Rattle.wire.specs.declared.posted.Posted.{Posted}
 use Rattle.wire.specs.Slips.{words_of}
-use Rattle.wire.proofs.Counting.{count-more}
-use Rattle.wire.proofs.Slipped.{none-posted-none}
+use Rattle.wire.proofs.Counting.{count_more}
+use Rattle.wire.proofs.Slipped.{none_posted_none}
 use Rattle.board.specs.declared.fit.Fit.{Fit}
-use Rattle.board.specs.Shown.{setting-of, method-of, repeats, answer-of}
-use Rattle.board.specs.Started.{posted-of, slip-of}
-use Rattle.board.specs.Laws.{Six-words}
+use Rattle.board.specs.Shown.{setting_of, method_of, repeats, answer_of}
+use Rattle.board.specs.Started.{posted_of, slip_of}
+use Rattle.board.specs.Laws.{SixWords}
 use Rattle.board.proofs.Starts.{start_word}
 
 fewer : (m : ℕ) → ones (m % 512) ≤ ones m
@@ -27,33 +27,33 @@ fewer m =
     omega (arith, whole, ap ones (div-add-mod' m 512))
 
 -- no more words than there are ones in the five sets
-words-ones : (p : Posted) → length (words_of p) ≤ ones (get_or p.kinds 0 0) + (ones (get_or p.kinds 1 0) + (ones (get_or p.kinds 2 0) + (ones (get_or p.kinds 3 0) + ones (get_or p.kinds 4 0))))
+words_ones : (p : Posted) → length (words_of p) ≤ ones (get_or p.kinds 0 0) + (ones (get_or p.kinds 1 0) + (ones (get_or p.kinds 2 0) + (ones (get_or p.kinds 3 0) + ones (get_or p.kinds 4 0))))
 unfolding words_of
-words-ones p =
+words_ones p =
     let m = λ (i : ℕ). fewer (get_or p.kinds i 0) in
-    omega (arith, count-more p 0, count-more p 1, count-more p 2, count-more p 3, count-more p 4, m 0, m 1, m 2, m 3, m 4)
+    omega (arith, count_more p 0, count_more p 1, count_more p 2, count_more p 3, count_more p 4, m 0, m 1, m 2, m 3, m 4)
 
 module _ (f : Fit) (h : List Vote) (w : Vote) where
-  news-six : (m : Method) (S : Setting) → Lawful S.rule → S.characters ≤ 8 → length (words_of (posted-of f (news-of (method-of m S) f.start h w))) ≤ 6
-  unfolding news-of
-  news-six Plain S lawful low = omega (arith, words-ones (posted-of f (news-of (method-of Plain S) f.start h w)), (marks-hold S).one-word-at-most low f.start h w)
-  news-six Echo S lawful low = omega (arith, words-ones (posted-of f (news-of (method-of Echo S) f.start h w)), (echo-facts S lawful).six-words-at-most f.start h w)
+  news_six : (m : Method) (S : Setting) → Lawful S.rule → S.characters ≤ 8 → length (words_of (posted_of f (news_of (method_of m S) f.start h w))) ≤ 6
+  unfolding news_of
+  news_six Plain S lawful low = omega (arith, words_ones (posted_of f (news_of (method_of Plain S) f.start h w)), (marks_hold S).one_word_at_most low f.start h w)
+  news_six Echo S lawful low = omega (arith, words_ones (posted_of f (news_of (method_of Echo S) f.start h w)), (echo_facts S lawful).six_words_at_most f.start h w)
 
-  answer-six : (R : Rule) → Lawful R → f.characters ≤ 8 → length (words_of (slip-of f (answer-of R f h w))) * 19 ≤ 114
-  unfolding answer-of
-  answer-six R lawful low =
-      cond_both (repeats f.method h w) _ _ (λ a. length (words_of (slip-of f a)) * 19 ≤ 114)
-      (λ _. omega (arith, ap length (none-posted-none f.group f.change f.board)))
-      (λ _. omega (arith, news-six f.method (setting-of R f) lawful low))
+  answer_six : (R : Rule) → Lawful R → f.characters ≤ 8 → length (words_of (slip_of f (answer_of R f h w))) * 19 ≤ 114
+  unfolding answer_of
+  answer_six R lawful low =
+      cond_both (repeats f.method h w) _ _ (λ a. length (words_of (slip_of f a)) * 19 ≤ 114)
+      (λ _. omega (arith, ap length (none_posted_none f.group f.change f.board)))
+      (λ _. omega (arith, news_six f.method (setting_of R f) lawful low))
 
-pub six-words : (R : Rule) (f : Fit) → Lawful R → f.characters ≤ 8 → Six-words R f
-six-words R f lawful low h w = answer-six f h w R lawful low
+pub six_words : (R : Rule) (f : Fit) → Lawful R → f.characters ≤ 8 → SixWords R f
+six_words R f lawful low h w = answer_six f h w R lawful low
 
 -- the first slip has one word
-pub first_fits : (f : Fit) → f.start ≤ 8 → length (words_of (posted-of f (start_word f.start))) * 19 ≤ 114
+pub first_fits : (f : Fit) → f.start ≤ 8 → length (words_of (posted_of f (start_word f.start))) * 19 ≤ 114
 first_fits f low =
     let bit : ones ((1 * 2 ^ f.start) % 65536) ≡ 1 = ap ones (one_shl f.start 16 (omega (arith, low))) ∙ ones_bit f.start in
-    omega (arith, words-ones (posted-of f (start_word f.start)), bit, none)
+    omega (arith, words_ones (posted_of f (start_word f.start)), bit, none)
   where
     none : ones 0 ≡ 0
     none = ones-ones 0

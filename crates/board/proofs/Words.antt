@@ -6,70 +6,70 @@ use Rattle.wire.specs.declared.word.Word.{Word}
 use Rattle.wire.specs.Fields.{is_within}
 use Rattle.wire.specs.Frames.{word_in}
 use Rattle.wire.specs.declared.fault.FrameFault.{FrameFault}
-use Rattle.wire.proofs.Outcomes.{ok-then, ok_same, ok-not-err}
+use Rattle.wire.proofs.Outcomes.{ok_then, ok_same, ok_not_err}
 use Rattle.board.specs.declared.fault.BoardFault.{BoardFault}
 use Rattle.board.specs.declared.fault.BoardFault.TheVariants.{Frame}
 use Rattle.board.specs.declared.fit.Fit.{Fit}
-use Rattle.board.specs.Taking.{kinds-used, least-value, word-fault, port-fault, passed-up, unless, word-taken}
-use Rattle.board.proofs.Good.{none-failed, within-parts}
+use Rattle.board.specs.Taking.{kinds_used, least_value, word_fault, port_fault, passed_up, unless, word_taken}
+use Rattle.board.proofs.Good.{none_failed, within_parts}
 
-pub record Good-word (R : Rule) (f : Fit) (w : Word) : Type 0 where
-  pub crew-high : R.crew ≤ 16
-  pub cover-low : 1 ≤ R.cover
-  pub sender-low : w.sender < R.crew
-  pub kind-low : 1 ≤ w.kind
-  pub kind-high : w.kind ≤ kinds-used f.method f.depth
-  pub value-high : w.value ≤ f.characters
+pub record GoodWord (R : Rule) (f : Fit) (w : Word) : Type 0 where
+  pub crew_high : R.crew ≤ 16
+  pub cover_low : 1 ≤ R.cover
+  pub sender_low : w.sender < R.crew
+  pub kind_low : 1 ≤ w.kind
+  pub kind_high : w.kind ≤ kinds_used f.method f.depth
+  pub value_high : w.value ≤ f.characters
 
-ok-unless : {X : Type 0} (o : Option BoardFault) (r : Result X BoardFault) (x : X) → unless o r ≡ Ok x → (o ≡ None) × (r ≡ Ok x)
-ok-unless None r x e = (refl, e)
-ok-unless (Some f) r x e = let z : ◌≡◌ {A = ℕ} 0 1 = cc in absurd (let n : ⊥ = omega arith in n)
+ok_unless : {X : Type 0} (o : Option BoardFault) (r : Result X BoardFault) (x : X) → unless o r ≡ Ok x → (o ≡ None) × (r ≡ Ok x)
+ok_unless None r x e = (refl, e)
+ok_unless (Some f) r x e = let z : ◌≡◌ {A = ℕ} 0 1 = cc in absurd (let n : ⊥ = omega arith in n)
 
-passed_ok : (b : ℕ) (r : Result Word FrameFault) (w : Word) → passed-up b r ≡ Ok w → r ≡ Ok w
+passed_ok : (b : ℕ) (r : Result Word FrameFault) (w : Word) → passed_up b r ≡ Ok w → r ≡ Ok w
 passed_ok b (Ok x) w e = let is : x ≡ w = ok_same x w e in ap Ok is
-passed_ok b (Err f) w e = ok-not-err w (Frame b f) (sym e)
+passed_ok b (Err f) w e = ok_not_err w (Frame b f) (sym e)
 
 module _ (R : Rule) (f : Fit) (port : ℕ) where
-  port-good : port-fault R port ≡ None → (R.crew ≤ 16) × (1 ≤ R.cover) × (port < R.crew)
-  unfolding port-fault
-  port-good e =
-      let crew = none-failed (is_within 1 16 R.crew) _ _ e in
-      let cover = none-failed (is_within 2 3 R.cover) _ _ crew.1 in
-      let at = none-failed (ltb port R.crew) _ _ cover.1 in
-      ((within-parts 1 16 R.crew crew.0).1, omega (arith, (within-parts 2 3 R.cover cover.0).0), ltb-true port R.crew at.0)
+  port_good : port_fault R port ≡ None → (R.crew ≤ 16) × (1 ≤ R.cover) × (port < R.crew)
+  unfolding port_fault
+  port_good e =
+      let crew = none_failed (is_within 1 16 R.crew) _ _ e in
+      let cover = none_failed (is_within 2 3 R.cover) _ _ crew.1 in
+      let at = none_failed (ltb port R.crew) _ _ cover.1 in
+      ((within_parts 1 16 R.crew crew.0).1, omega (arith, (within_parts 2 3 R.cover cover.0).0), ltb-true port R.crew at.0)
 
-  word_good : (w : Word) → word-fault f port w ≡ None → (w.sender ≡ port) × (1 ≤ w.kind) × (w.kind ≤ kinds-used f.method f.depth) × (w.value ≤ f.characters)
-  unfolding word-fault
+  word_good : (w : Word) → word_fault f port w ≡ None → (w.sender ≡ port) × (1 ≤ w.kind) × (w.kind ≤ kinds_used f.method f.depth) × (w.value ≤ f.characters)
+  unfolding word_fault
   word_good w e =
-      let here = none-failed (eqb w.group f.group && eqb w.change f.change) _ _ e in
-      let sender = none-failed (eqb w.sender port) _ _ here.1 in
-      let kind = none-failed (is_within 1 (kinds-used f.method f.depth) w.kind) _ _ sender.1 in
-      let value = none-failed (is_within (least-value f.method w.kind) f.characters w.value) _ _ kind.1 in (
+      let here = none_failed (eqb w.group f.group && eqb w.change f.change) _ _ e in
+      let sender = none_failed (eqb w.sender port) _ _ here.1 in
+      let kind = none_failed (is_within 1 (kinds_used f.method f.depth) w.kind) _ _ sender.1 in
+      let value = none_failed (is_within (least_value f.method w.kind) f.characters w.value) _ _ kind.1 in (
         eqb-true w.sender port sender.0,
-        (within-parts 1 (kinds-used f.method f.depth) w.kind kind.0).0,
-        (within-parts 1 (kinds-used f.method f.depth) w.kind kind.0).1,
-        (within-parts (least-value f.method w.kind) f.characters w.value value.0).1,
+        (within_parts 1 (kinds_used f.method f.depth) w.kind kind.0).0,
+        (within_parts 1 (kinds_used f.method f.depth) w.kind kind.0).1,
+        (within_parts (least_value f.method w.kind) f.characters w.value value.0).1,
       )
 
-  pub good-word : (xs : List ℕ) (w : Word) → word-taken R f port xs ≡ Ok w → Good-word R f w
-  unfolding word-taken
-  good-word xs w e =
-      let p = ok-unless (port-fault R port) _ w e in
-      let t = ok-then (passed-up f.board (word_in xs)) (λ u. unless (word-fault f port u) (Ok u)) w p.1 in
+  pub good_word : (xs : List ℕ) (w : Word) → word_taken R f port xs ≡ Ok w → GoodWord R f w
+  unfolding word_taken
+  good_word xs w e =
+      let p = ok_unless (port_fault R port) _ w e in
+      let t = ok_then (passed_up f.board (word_in xs)) (λ u. unless (word_fault f port u) (Ok u)) w p.1 in
       let u = t.0 in
-      let q = ok-unless (word-fault f port u) (Ok u) w t.2 in
+      let q = ok_unless (word_fault f port u) (Ok u) w t.2 in
       let is : u ≡ w = ok_same u w q.1 in
-      let ports = port-good p.0 in
-      let words = word_good w (ap (word-fault f port) (sym is) ∙ q.0) in
-      record { crew-high = ports.0; cover-low = ports.1; sender-low = omega (arith, ports.2, words.0); kind-low = words.1; kind-high = words.2; value-high = words.3 }
+      let ports = port_good p.0 in
+      let words = word_good w (ap (word_fault f port) (sym is) ∙ q.0) in
+      record { crew_high = ports.0; cover_low = ports.1; sender_low = omega (arith, ports.2, words.0); kind_low = words.1; kind_high = words.2; value_high = words.3 }
 
   -- the word that is taken is the one that the bytes carry, and its sender is the port
-  pub taken_is : (xs : List ℕ) (w : Word) → word-taken R f port xs ≡ Ok w → (word_in xs ≡ Ok w) × (w.sender ≡ port)
-  unfolding word-taken
+  pub taken_is : (xs : List ℕ) (w : Word) → word_taken R f port xs ≡ Ok w → (word_in xs ≡ Ok w) × (w.sender ≡ port)
+  unfolding word_taken
   taken_is xs w e =
-      let p = ok-unless (port-fault R port) _ w e in
-      let t = ok-then (passed-up f.board (word_in xs)) (λ u. unless (word-fault f port u) (Ok u)) w p.1 in
+      let p = ok_unless (port_fault R port) _ w e in
+      let t = ok_then (passed_up f.board (word_in xs)) (λ u. unless (word_fault f port u) (Ok u)) w p.1 in
       let u = t.0 in
-      let q = ok-unless (word-fault f port u) (Ok u) w t.2 in
+      let q = ok_unless (word_fault f port u) (Ok u) w t.2 in
       let is : u ≡ w = ok_same u w q.1 in
-      (passed_ok f.board (word_in xs) w (t.1 ∙ ap Ok is), (word_good w (ap (word-fault f port) (sym is) ∙ q.0)).0)
+      (passed_ok f.board (word_in xs) w (t.1 ∙ ap Ok is), (word_good w (ap (word_fault f port) (sym is) ∙ q.0)).0)

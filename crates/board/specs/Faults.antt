@@ -13,18 +13,18 @@ abbrev pub passed_on : ℕ → Refusal → Refusal
 passed_on b r = record { number = r.number; place = r.place; board = Some b }
 
 -- every case; the layer follows from the number
-abbrev pub refusal-of : BoardFault → Refusal
-refusal-of Crew = told 1
-refusal-of Characters = told 2
-refusal-of Depth = told 3
-refusal-of Cover = told 3
-refusal-of EchoCover = told 6
-refusal-of Board = told 7
-refusal-of Address = told 8
-refusal-of Start = told 9
-refusal-of Port = told 10
-refusal-of (Frame b f) = passed_on b (frame.refusal-of f)
-refusal-of Elsewhere = told 16
-refusal-of Sender = told 17
-refusal-of Kind = told 18
-refusal-of Value = told 19
+abbrev pub refusal_of : BoardFault → Refusal
+refusal_of Crew = told 1
+refusal_of Characters = told 2
+refusal_of Depth = told 3
+refusal_of Cover = told 3
+refusal_of EchoCover = told 6
+refusal_of Board = told 7
+refusal_of Address = told 8
+refusal_of Start = told 9
+refusal_of Port = told 10
+refusal_of (Frame b f) = passed_on b (frame.refusal_of f)
+refusal_of Elsewhere = told 16
+refusal_of Sender = told 17
+refusal_of Kind = told 18
+refusal_of Value = told 19

@@ -6,6 +6,6 @@ use Rattle.vote.specs.declared.Depth.TheVariants.{One, Two}
 use Rattle.board.specs.declared.lamp.Order.{Order}
 use Rattle.board.specs.declared.lamp.Order.TheVariants.{Show, Load, Stay}
 
-abbrev pub order-of : Depth → Decision → Order
-order-of One d = cond (d.value == 0) Stay (Show d.value)
-order-of Two d = cond (d.value == 0) Stay (cond (d.grade == 2) (Show d.value) (Load d.value))
+abbrev pub order_of : Depth → Decision → Order
+order_of One d = cond (d.value == 0) Stay (Show d.value)
+order_of Two d = cond (d.value == 0) Stay (cond (d.grade == 2) (Show d.value) (Load d.value))

@@ -1,6 +1,6 @@
 // Why a board is not fitted, or does not take a frame.
 ghost use Rattle.std.specs.Prelude.{◌≡◌};
-ghost use Rattle.board.specs.Faults.{refusal-of};
+ghost use Rattle.board.specs.Faults.{refusal_of};
 ghost use Rattle.board.specs.declared.fault.BoardFault.TheVariants.{Frame};
 
 use refusal::Refusal;
@@ -41,7 +41,7 @@ pub enum BoardFault {
 impl BoardFault {
     // What is told of the fault.
     pub fn refusal(&self) -> Refusal
-        ensures { result ≡ refusal-of self.now }
+        ensures { result ≡ refusal_of self.now }
     {
         let number = match *self {
             BoardFault::Crew => 1,

@@ -1,6 +1,6 @@
 // The settings of a board, in the sizes that it keeps them.
 ghost use Rattle.std.specs.Prelude.{◌≡◌, true};
-ghost use Rattle.board.specs.Sound.{sound-fit};
+ghost use Rattle.board.specs.Sound.{sound_fit};
 
 use vote::{Depth, Method};
 
@@ -19,5 +19,5 @@ pub struct Fit {
 #[derive(Clone, Copy)]
 pub struct Fitting {
     pub fit: Fit,
-    ghost sound: { sound-fit fit.characters fit.group fit.change fit.board fit.start ≡ true },
+    ghost sound: { sound_fit fit.characters fit.group fit.change fit.board fit.start ≡ true },
 }

@@ -1,7 +1,7 @@
 // A board that is fitted and not yet started.
 ghost use Rattle.std.specs.Prelude.{◌≡◌, ℕ, ◌≤◌, Some, None, MatchResult};
 ghost use Rattle.board.specs.Fitted.{Keeps};
-ghost use Rattle.board.specs.Fitting.{settings-fault, Good-settings};
+ghost use Rattle.board.specs.Fitting.{settings_fault, GoodSettings};
 
 use crate::fault::BoardFault;
 use crate::fit::{Fit, Fitting};
@@ -17,7 +17,7 @@ pub struct Fitted<R: FailureRule> {
 
 // The settings in the sizes that a board keeps them.
 fn kept(settings: &Settings) -> Fitting
-    requires { Good-settings settings.now }
+    requires { GoodSettings settings.now }
     ensures { Keeps settings.now result.fit }
 {
     let depth = if settings.depth == 1 {
@@ -40,7 +40,7 @@ fn kept(settings: &Settings) -> Fitting
 impl<R: FailureRule + Drop> Fitted<R> {
     // The fitted board, or what stands against it.
     pub fn fit(rule: R, settings: Settings) -> Result<Fitted<R>, BoardFault>
-        ensures { MatchResult result (λ b. (settings-fault (R.meaning rule) settings ≡ None) × (b.rule ≡ rule) × Keeps settings b.fitting.fit) (λ e. settings-fault (R.meaning rule) settings ≡ Some e) }
+        ensures { MatchResult result (λ b. (settings_fault (R.meaning rule) settings ≡ None) × (b.rule ≡ rule) × Keeps settings b.fitting.fit) (λ e. settings_fault (R.meaning rule) settings ≡ Some e) }
     {
         if let Some(fault) = settings_fault(&rule, &settings) {
             return Err(fault);

@@ -3,9 +3,9 @@ ghost use Rattle.std.specs.Prelude.{◌≡◌, ◌*◌, ◌≤◌, List, [], len
 ghost use Rattle.quorum.specs.Rules.{Rule};
 ghost use Rattle.wire.specs.Slips.{words_of};
 ghost use Rattle.vote.specs.declared.Vote.{Vote};
-ghost use Rattle.board.specs.Shown.{record_of, method-of, setting-of};
-ghost use Rattle.board.specs.Started.{posted-of, told_of, slip-of, first-posted, Accepts};
-ghost use Rattle.board.specs.Taking.{word-taken};
+ghost use Rattle.board.specs.Shown.{record_of, method_of, setting_of};
+ghost use Rattle.board.specs.Started.{posted_of, told_of, slip_of, first_posted, Accepts};
+ghost use Rattle.board.specs.Taking.{word_taken};
 
 use crate::answer::Taken;
 use crate::fault::BoardFault;
@@ -21,7 +21,7 @@ use wire::{Posted, Slip};
 
 // The slip with these sets of values by kind.
 fn slip(fitting: &Fitting, kinds: [u16; 5]) -> Slip
-    ensures { result.posted ≡ posted-of fitting.now.fit (record { kinds = kinds }) }
+    ensures { result.posted ≡ posted_of fitting.now.fit (record { kinds = kinds }) }
 {
     let posted = Posted {
         group: fitting.fit.group,
@@ -38,7 +38,7 @@ fn slip(fitting: &Fitting, kinds: [u16; 5]) -> Slip
 // The answer and the slip of a counted word.
 fn told(fitting: &Fitting, news: Option<News>) -> (Taken, Slip)
     ensures taken { result.0 ≡ told_of news }
-    ensures slip { result.1.posted ≡ slip-of fitting.now.fit news }
+    ensures slip { result.1.posted ≡ slip_of fitting.now.fit news }
 {
     match news {
         None => (Taken::Again, slip(fitting, [0; 5])),
@@ -67,7 +67,7 @@ impl Fitting {
 
     // The slip that goes with the start: it has the board's first word.
     pub fn first_slip(&self) -> Slip
-        ensures value { (R : Rule) → result.posted ≡ first-posted R self.now.fit }
+        ensures value { (R : Rule) → result.posted ≡ first_posted R self.now.fit }
         ensures fits { length (words_of result.posted) * 19 ≤ 114 }
     {
         slip(self, [1 << self.fit.start, 0, 0, 0, 0])
@@ -82,7 +82,7 @@ impl Fitting {
         bytes: &[u8],
     ) -> Result<(Taken, Slip), BoardFault>
         ensures accepted { IfOk result (λ x. Accepts (R.meaning rule.now) self.now.fit port bytes.now state.old state.new x.0 x.1.posted) }
-        ensures refused { IfErr result (λ e. (word-taken (R.meaning rule.now) self.now.fit port bytes.now ≡ Err e) × (state.new ≡ state.old)) }
+        ensures refused { IfErr result (λ e. (word_taken (R.meaning rule.now) self.now.fit port bytes.now ≡ Err e) × (state.new ≡ state.old)) }
     {
         let fit = self.fit;
         let word = word_taken(rule, &fit, port, bytes)?;
@@ -98,7 +98,7 @@ impl Fitting {
 
     // Whether a started board with this record has posted the word, whatever these numbers are.
     pub fn has_posted(&self, state: &Record, kind: u8, value: u8) -> bool
-        ensures { (R : Rule) (h : List Vote) → state.now ≡ record_of R self.now.fit h → result ≡ (method-of self.now.fit.method (setting-of R self.now.fit)).posts self.now.fit.start h kind value }
+        ensures { (R : Rule) (h : List Vote) → state.now ≡ record_of R self.now.fit h → result ≡ (method_of self.now.fit.method (setting_of R self.now.fit)).posts self.now.fit.start h kind value }
     {
         match state {
             Record::Gathers(plain) => plain.has_posted(self.fit.depth, self.fit.start, kind, value),

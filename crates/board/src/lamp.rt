@@ -1,6 +1,6 @@
 // What a decided board has its lamp do.
 ghost use Rattle.std.specs.Prelude.{◌≡◌};
-ghost use Rattle.board.specs.Lamps.{order-of};
+ghost use Rattle.board.specs.Lamps.{order_of};
 
 use vote::{Decision, Depth};
 
@@ -16,7 +16,7 @@ pub enum Order {
 
 // The order that a decision gives at a depth.
 pub fn lamp_order(depth: Depth, decision: Decision) -> Order
-    ensures { result ≡ order-of depth decision }
+    ensures { result ≡ order_of depth decision }
 {
     if decision.value == 0 {
         return Order::Stay;

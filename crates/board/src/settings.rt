@@ -1,6 +1,6 @@
 // What a board is fitted with, and what stands against it.
 ghost use Rattle.std.specs.Prelude.{◌≡◌, if◌then◌else◌, Some};
-ghost use Rattle.board.specs.Fitting.{settings-fault, echo-under-two};
+ghost use Rattle.board.specs.Fitting.{settings_fault, echo_under_two};
 ghost use Rattle.wire.specs.Fields.{is_within};
 
 use crate::fault::BoardFault;
@@ -39,7 +39,7 @@ pub(crate) fn within(low: u32, high: u32, number: u32) -> bool
 
 // What stands against fitting a board with these settings under the rule, by rising number.
 pub fn settings_fault<R: FailureRule>(rule: &R, settings: &Settings) -> Option<BoardFault>
-    ensures { result ≡ settings-fault (R.meaning rule.now) settings.now }
+    ensures { result ≡ settings_fault (R.meaning rule.now) settings.now }
 {
     let crew = rule.crew() as u32;
     let cover = rule.cover() as u32;
@@ -85,7 +85,7 @@ pub(crate) fn needs(
 
 // The echo method needs a cover of 3.
 fn echo_under_two(method: Method, cover: u32) -> bool
-    ensures { result ≡ echo-under-two method cover }
+    ensures { result ≡ echo_under_two method cover }
 {
     match method {
         Method::Plain => false,

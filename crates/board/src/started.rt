@@ -2,10 +2,10 @@
 ghost use Rattle.std.specs.Prelude.{◌≡◌, [], IfOk, IfErr, Err};
 ghost use Rattle.board.specs.Shown.{record_of, Decides};
 ghost use Rattle.board.specs.Ordered.{Orders};
-ghost use Rattle.board.specs.Laws.{Board-keeps};
-ghost use Rattle.board.specs.Marked.{Marked-cases-hold};
-ghost use Rattle.board.specs.Started.{first-posted, Accepts};
-ghost use Rattle.board.specs.Taking.{word-taken};
+ghost use Rattle.board.specs.Laws.{BoardKeeps};
+ghost use Rattle.board.specs.Marked.{MarkedCasesHold};
+ghost use Rattle.board.specs.Started.{first_posted, Accepts};
+ghost use Rattle.board.specs.Taking.{word_taken};
 
 use crate::answer::Taken;
 use crate::fault::BoardFault;
@@ -29,9 +29,9 @@ impl<R: FailureRule> Fitted<R> {
     pub fn start(self) -> (Started<R>, Slip)
         ensures same { (result.0.rule ≡ self.rule) × (result.0.fitting ≡ self.fitting) }
         ensures state { result.0.state ≡ record_of (R.meaning self.rule) self.fitting.fit [] }
-        ensures slip { result.1.posted ≡ first-posted (R.meaning self.rule) self.fitting.fit }
-        ensures keeps { Board-keeps (R.meaning self.rule) self.fitting.fit }
-        ensures the_marked_cases_hold { Marked-cases-hold }
+        ensures slip { result.1.posted ≡ first_posted (R.meaning self.rule) self.fitting.fit }
+        ensures keeps { BoardKeeps (R.meaning self.rule) self.fitting.fit }
+        ensures the_marked_cases_hold { MarkedCasesHold }
     {
         let Fitted { rule, fitting } = self;
         let state = fitting.record();
@@ -52,7 +52,7 @@ impl<R: FailureRule> Started<R> {
     pub fn take(&mut self, port: u8, bytes: &[u8]) -> Result<(Taken, Slip), BoardFault>
         ensures same { (self.new.rule ≡ self.old.rule) × (self.new.fitting ≡ self.old.fitting) }
         ensures accepted { IfOk result (λ x. Accepts (R.meaning self.old.rule) self.old.fitting.fit port bytes.now self.old.state self.new.state x.0 x.1.posted) }
-        ensures refused { IfErr result (λ e. (word-taken (R.meaning self.old.rule) self.old.fitting.fit port bytes.now ≡ Err e) × (self.new.state ≡ self.old.state)) }
+        ensures refused { IfErr result (λ e. (word_taken (R.meaning self.old.rule) self.old.fitting.fit port bytes.now ≡ Err e) × (self.new.state ≡ self.old.state)) }
     {
         let mut state = self.state;
         let answer = self.fitting.take(&self.rule, &mut state, port, bytes);

@@ -1,7 +1,7 @@
 // One step for the record of a board, whatever its method.
 ghost use Rattle.std.specs.Prelude.{◌≡◌, ℕ, ◌<◌, ◌≤◌};
 ghost use Rattle.board.specs.Shown.{Counts};
-ghost use Rattle.board.specs.Taking.{kinds-used};
+ghost use Rattle.board.specs.Taking.{kinds_used};
 
 use crate::fit::Fit;
 use crate::record::Record;
@@ -17,7 +17,7 @@ pub(crate) fn step<R: FailureRule>(
 ) -> (Record, Option<News>)
     requires rule { ((R.meaning rule.now).crew ≤ 16) × (1 ≤ (R.meaning rule.now).cover) }
     requires fit { fit.now.characters ≤ 8 }
-    requires vote { (vote.sender < (R.meaning rule.now).crew) × ((1 ≤ vote.kind) × ((vote.kind ≤ kinds-used fit.now.method fit.now.depth) × (vote.value ≤ fit.now.characters))) }
+    requires vote { (vote.sender < (R.meaning rule.now).crew) × ((1 ≤ vote.kind) × ((vote.kind ≤ kinds_used fit.now.method fit.now.depth) × (vote.value ≤ fit.now.characters))) }
     ensures { Counts (R.meaning rule.now) fit.now vote state result.0 result.1 }
 {
     // a record of the other method shows no history of this board

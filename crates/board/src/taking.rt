@@ -1,7 +1,7 @@
 // Which frames a board takes on a port.
 ghost use Rattle.std.specs.Prelude.{◌≡◌, ℕ, cond, Some, Ok, Err, MatchResult};
 ghost use Rattle.wire.specs.Frames.{word_in};
-ghost use Rattle.board.specs.Taking.{kinds-used, least-value, word-fault, port-fault, word-taken};
+ghost use Rattle.board.specs.Taking.{kinds_used, least_value, word_fault, port_fault, word_taken};
 
 use crate::fault::BoardFault;
 use crate::fit::Fit;
@@ -18,7 +18,7 @@ const MAX_COVER: u32 = quorum::MAX_COVER as u32;
 
 // The highest kind that the method uses at the depth.
 fn kinds_used(method: Method, depth: Depth) -> u32
-    ensures { result ≡ kinds-used method depth }
+    ensures { result ≡ kinds_used method depth }
 {
     match (method, depth) {
         (Method::Plain, Depth::One) => 1,
@@ -30,7 +30,7 @@ fn kinds_used(method: Method, depth: Depth) -> u32
 
 // The least value of a kind.
 fn least_value(method: Method, kind: u8) -> u32
-    ensures { result ≡ least-value method kind }
+    ensures { result ≡ least_value method kind }
 {
     match method {
         Method::Plain => { if kind == 1 { 1 } else { 0 } }
@@ -40,7 +40,7 @@ fn least_value(method: Method, kind: u8) -> u32
 
 // What stands against a word that was read on the port.
 fn word_fault(fit: &Fit, port: u8, word: Word) -> Option<BoardFault>
-    ensures { result ≡ word-fault fit.now port word }
+    ensures { result ≡ word_fault fit.now port word }
 {
     let here = (word.group == fit.group) & (word.change == fit.change);
     let used = within(1, kinds_used(fit.method, fit.depth), word.kind as u32);
@@ -54,7 +54,7 @@ fn word_fault(fit: &Fit, port: u8, word: Word) -> Option<BoardFault>
 
 // What stands against the port.
 fn port_fault<R: FailureRule>(rule: &R, port: u8) -> Option<BoardFault>
-    ensures { result ≡ port-fault (R.meaning rule.now) port }
+    ensures { result ≡ port_fault (R.meaning rule.now) port }
 {
     let crew = rule.crew();
     let cover = rule.cover() as u32;
@@ -84,7 +84,7 @@ pub(crate) fn word_taken<R: FailureRule>(
     port: u8,
     bytes: &[u8],
 ) -> Result<Word, BoardFault>
-    ensures { result ≡ word-taken (R.meaning rule.now) fit.now port bytes.now }
+    ensures { result ≡ word_taken (R.meaning rule.now) fit.now port bytes.now }
 {
     if let Some(fault) = port_fault(rule, port) {
         return Err(fault);

@@ -3,32 +3,32 @@ use Rattle.std.proofs.Common.{◌≡◌, ℕ, List, length, drop, Some, Ok, Err,
 use Rattle.quorum.specs.Rules.{Rule}
 use Rattle.wire.specs.declared.posted.Posted.{Posted}
 use Rattle.wire.specs.declared.word.Word.{Word}
-use Rattle.wire.specs.Slips.{words_of, frames-of}
-use Rattle.wire.specs.Writes.{zero-filled}
+use Rattle.wire.specs.Slips.{words_of, frames_of}
+use Rattle.wire.specs.Writes.{zero_filled}
 use Rattle.board.specs.declared.answer.Taken.{Taken}
 use Rattle.board.specs.declared.fault.BoardFault.{BoardFault}
 use Rattle.board.specs.declared.fit.Fit.{Fit}
 use Rattle.board.specs.declared.record.Record.{Record}
-use Rattle.board.specs.Faults.{refusal-of}
+use Rattle.board.specs.Faults.{refusal_of}
 use Rattle.board.specs.Started.{Accepts}
-use Rattle.board.specs.Taking.{word-taken}
+use Rattle.board.specs.Taking.{word_taken}
 use Rattle.board_bench.specs.declared.answer.Answer.{Answer}
 use Rattle.board_bench.specs.declared.said.Said.{Said}
 use Rattle.board_bench.specs.Answers.{refused, taken}
 use Rattle.board_bench.specs.Saying.{said_in}
-use Rattle.board_bench.specs.Turns.{By-word, By-said, Turned}
+use Rattle.board_bench.specs.Turns.{ByWord, BySaid, Turned}
 
 module _ (R : Rule) (f : Fit) (o p : Record) (a : Answer) (n : ℕ) (buf line : List ℕ) (s : Said) (said : said_in line ≡ Some s) (xs : List ℕ) (part : xs ≡ drop s.begins line) where
-  turned : (r : Result Word BoardFault) → word-taken R f s.port xs ≡ r → By-word R f o p a n buf s.port xs r → Turned R f o p a n buf line
+  turned : (r : Result Word BoardFault) → word_taken R f s.port xs ≡ r → ByWord R f o p a n buf s.port xs r → Turned R f o p a n buf line
   turned r e h =
-      let P : Result Word BoardFault → Type 0 = By-word R f o p a n buf s.port xs in
-      let Q : List ℕ → Type 0 = λ ys. By-word R f o p a n buf s.port ys (word-taken R f s.port ys) in
-      let S : Option Said → Type 0 = By-said R f o p a n buf line in
+      let P : Result Word BoardFault → Type 0 = ByWord R f o p a n buf s.port xs in
+      let Q : List ℕ → Type 0 = λ ys. ByWord R f o p a n buf s.port ys (word_taken R f s.port ys) in
+      let S : Option Said → Type 0 = BySaid R f o p a n buf line in
       subst S (sym said) (subst Q part (subst P (sym e) h))
 
-  pub turned-refused : (e : BoardFault) → word-taken R f s.port xs ≡ Err e → a ≡ refused (refusal-of e) → p ≡ o → n ≡ 0 → Turned R f o p a n buf line
-  turned-refused e q told stays none = turned (Err e) q (told, stays, none)
+  pub turned_refused : (e : BoardFault) → word_taken R f s.port xs ≡ Err e → a ≡ refused (refusal_of e) → p ≡ o → n ≡ 0 → Turned R f o p a n buf line
+  turned_refused e q told stays none = turned (Err e) q (told, stays, none)
 
-  pub turned_taken : (how : Taken) (slip : Posted) → Accepts R f s.port xs o p how slip → a ≡ taken how (length (words_of slip)) → n ≡ length (frames-of slip)
-      → buf ≡ zero-filled (frames-of slip) 855 → Turned R f o p a n buf line
+  pub turned_taken : (how : Taken) (slip : Posted) → Accepts R f s.port xs o p how slip → a ≡ taken how (length (words_of slip)) → n ≡ length (frames_of slip)
+      → buf ≡ zero_filled (frames_of slip) 855 → Turned R f o p a n buf line
   turned_taken how slip takes told bytes holds = turned (Ok takes.0) takes.1 (how, slip, takes, told, bytes, holds)

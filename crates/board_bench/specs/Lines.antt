@@ -5,15 +5,15 @@ use Rattle.std.specs.Prelude.{ℕ, suc, ◌+◌, ◌-◌, ◌*◌, Bool, cond, �
 abbrev pub comma : ℕ
 comma = 44
 
-abbrev pub zero-digit : ℕ
-zero-digit = 48
+abbrev pub zero_digit : ℕ
+zero_digit = 48
 
-abbrev pub nine-digit : ℕ
-nine-digit = 57
+abbrev pub nine_digit : ℕ
+nine_digit = 57
 
 -- the greatest number that a line may hold
-abbrev pub max-number : ℕ
-max-number = 65535
+abbrev pub max_number : ℕ
+max_number = 65535
 
 -- the next answer, where there is a first
 abbrev pub and_then : {A B : Type 0} → Option A → (A → Option B) → Option B
@@ -21,29 +21,29 @@ and_then None f = None
 and_then (Some x) f = f x
 
 abbrev pub digit : ℕ → Bool
-digit b = nat_le zero-digit b && nat_le b nine-digit
+digit b = nat_le zero_digit b && nat_le b nine_digit
 
 -- a number with one digit more, unless that makes it too large; after no digit the digit itself; nothing follows a leading 0
-abbrev pub with-digit : Option ℕ → ℕ → Option ℕ
-with-digit None b = cond (digit b) (Some (b - zero-digit)) None
-with-digit (Some v) b = cond (digit b && nat_lt 0 v && nat_le (v * 10 + (b - zero-digit)) max-number) (Some (v * 10 + (b - zero-digit))) None
+abbrev pub with_digit : Option ℕ → ℕ → Option ℕ
+with_digit None b = cond (digit b) (Some (b - zero_digit)) None
+with_digit (Some v) b = cond (digit b && nat_lt 0 v && nat_le (v * 10 + (b - zero_digit)) max_number) (Some (v * 10 + (b - zero_digit))) None
 
 -- the number that the bytes write, after what was read of it before
-abbrev pub number-on : Option ℕ → List ℕ → Option ℕ
-number-on v [] = v
-number-on v (b ∷ bs) = and_then (with-digit v b) (λ w. number-on (Some w) bs)
+abbrev pub number_on : Option ℕ → List ℕ → Option ℕ
+number_on v [] = v
+number_on v (b ∷ bs) = and_then (with_digit v b) (λ w. number_on (Some w) bs)
 
 abbrev pub number_in : List ℕ → Option ℕ
-number_in bs = number-on None bs
+number_in bs = number_on None bs
 
 -- the numbers that the bytes write with commas between, after those read before and what was read of the next
 abbrev pub numbers_on : List ℕ → Option ℕ → List ℕ → Option (List ℕ)
 numbers_on vs v [] = and_then v (λ w. Some (vs ++ w ∷ []))
 numbers_on vs v (b ∷ bs) =
-    cond (b == comma) (and_then v (λ w. numbers_on (vs ++ w ∷ []) None bs)) (and_then (with-digit v b) (λ w. numbers_on vs (Some w) bs))
+    cond (b == comma) (and_then v (λ w. numbers_on (vs ++ w ∷ []) None bs)) (and_then (with_digit v b) (λ w. numbers_on vs (Some w) bs))
 
-abbrev pub numbers-in : List ℕ → Option (List ℕ)
-numbers-in bs = numbers_on [] None bs
+abbrev pub numbers_in : List ℕ → Option (List ℕ)
+numbers_in bs = numbers_on [] None bs
 
 -- how many bytes stand before the first mark, or in all where there is none
 abbrev pub until : ℕ → List ℕ → ℕ

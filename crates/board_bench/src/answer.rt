@@ -1,6 +1,6 @@
 // What is answered to a line, and how the answer is written.
 ghost use Rattle.std.specs.Prelude.{◌≡◌, Some};
-ghost use Rattle.board_bench.specs.Answers.{answer-line, refused, taken};
+ghost use Rattle.board_bench.specs.Answers.{answer_line, refused, taken};
 
 use board::Taken;
 use refusal::Refusal;
@@ -41,7 +41,7 @@ pub fn taken_with(how: Taken, posted: usize) -> Answer
 }
 
 impl fmt::Display for Answer {
-    ghost output = { λ a. Some (answer-line a) };
+    ghost output = { λ a. Some (answer_line a) };
 
     fn fmt<W: fmt::Write>(&self, f: &mut fmt::Formatter<W>) -> fmt::Result {
         match *self {

@@ -1,6 +1,6 @@
 // What the first line asks for: a count rule, and the settings of a board under it.
 ghost use Rattle.std.specs.Prelude.{◌≡◌, IfOk};
-ghost use Rattle.board_bench.specs.Asking.{method-of, asked-with, asked_by, asked_in};
+ghost use Rattle.board_bench.specs.Asking.{method_of, asked_with, asked_by, asked_in};
 
 use crate::number::numbers;
 use board::Settings;
@@ -18,7 +18,7 @@ pub struct Asked {
 }
 
 fn method(letter: u8) -> Option<Method>
-    ensures { result ≡ method-of letter }
+    ensures { result ≡ method_of letter }
 {
     match letter as char {
         'p' => Some(Method::Plain),
@@ -29,7 +29,7 @@ fn method(letter: u8) -> Option<Method>
 
 // What just nine numbers ask for.
 fn asked_with(numbers: &[u16], method: Method) -> Option<Asked>
-    ensures { result ≡ asked-with numbers.now method }
+    ensures { result ≡ asked_with numbers.now method }
 {
     if numbers.len() != NUMBERS {
         return None;

@@ -1,6 +1,6 @@
 // How a decision is written, with what it has the lamp do.
 ghost use Rattle.std.specs.Prelude.{◌≡◌, Some};
-ghost use Rattle.board_bench.specs.Answers.{decided-line};
+ghost use Rattle.board_bench.specs.Answers.{decided_line};
 
 use board::Order;
 use std::fmt;
@@ -13,7 +13,7 @@ pub struct Decided {
 }
 
 impl fmt::Display for Decided {
-    ghost output = { λ d. Some (decided-line d) };
+    ghost output = { λ d. Some (decided_line d) };
 
     fn fmt<W: fmt::Write>(&self, f: &mut fmt::Formatter<W>) -> fmt::Result {
         let value = self.decision.value;

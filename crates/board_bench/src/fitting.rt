@@ -1,9 +1,9 @@
 // The board that is asked for, or the lowest number that stands against it.
 ghost use Rattle.std.specs.Prelude.{◌≡◌, IfOk, if◌then◌else◌, Some, None, MatchResult, nat_lt};
-ghost use Rattle.quorum.specs.Counting.{count-rule};
-ghost use Rattle.quorum.specs.Faults.{count-fault};
+ghost use Rattle.quorum.specs.Counting.{count_rule};
+ghost use Rattle.quorum.specs.Faults.{count_fault};
 ghost use Rattle.board.specs.Fitted.{Keeps};
-ghost use Rattle.board_bench.specs.Asking.{lowest-of};
+ghost use Rattle.board_bench.specs.Asking.{lowest_of};
 
 use crate::asked::Asked;
 use board::{Fitted, settings_fault};
@@ -17,7 +17,7 @@ fn lower(m: u8, n: u8) -> u8
 
 // The lowest number, where this stands against the rule.
 fn lowest(fault: RuleFault, asked: &Asked) -> u8
-    ensures { count-fault asked.now.crew asked.now.cover asked.now.f ≡ Some fault → lowest-of asked.now ≡ Some result }
+    ensures { count_fault asked.now.crew asked.now.cover asked.now.f ≡ Some fault → lowest_of asked.now ≡ Some result }
 {
     // the rule asked for cannot be made, so the settings are held to another one of the same crew; no fault that the two rules do not share is lower
     let Ok(rule) = CountRule::new(asked.crew, MAX_COVER as u16, 0) else {
@@ -30,8 +30,8 @@ fn lowest(fault: RuleFault, asked: &Asked) -> u8
 }
 
 pub fn fitted(asked: &Asked) -> Result<Fitted<CountRule>, u8>
-    ensures value { MatchResult result (λ _. lowest-of asked.now ≡ None) (λ n. lowest-of asked.now ≡ Some n) }
-    ensures rule { IfOk result (λ b. count-rule b.rule.crew b.rule.cover b.rule.f ≡ count-rule asked.now.crew asked.now.cover asked.now.f) }
+    ensures value { MatchResult result (λ _. lowest_of asked.now ≡ None) (λ n. lowest_of asked.now ≡ Some n) }
+    ensures rule { IfOk result (λ b. count_rule b.rule.crew b.rule.cover b.rule.f ≡ count_rule asked.now.crew asked.now.cover asked.now.f) }
     ensures fit { IfOk result (λ b. Keeps asked.now.settings b.fitting.fit) }
 {
     match CountRule::new(asked.crew, asked.cover, asked.f) {

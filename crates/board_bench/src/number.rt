@@ -1,6 +1,6 @@
 // Numbers in base ten, without leading zeros and at most 65535.
 ghost use Rattle.std.specs.Prelude.{◌≡◌, [], IfOk, Some, None, MatchOption};
-ghost use Rattle.board_bench.specs.Lines.{with-digit, number_in, numbers-in};
+ghost use Rattle.board_bench.specs.Lines.{with_digit, number_in, numbers_in};
 
 use std::alloc::{AllocError, Global};
 
@@ -8,7 +8,7 @@ const MAX_NUMBER: u32 = 65535;
 
 // The number so far with one digit more, if there is such a number.
 fn with_digit(so_far: Option<u16>, byte: u8) -> Option<u16>
-    ensures { result ≡ with-digit so_far byte }
+    ensures { result ≡ with_digit so_far byte }
 {
     if byte < b'0' || byte > b'9' {
         return None;
@@ -42,7 +42,7 @@ pub fn number(line: &[u8]) -> Option<u16>
 
 // The numbers that a line writes with commas between, if it writes such.
 pub fn numbers(heap: Global, line: &[u8]) -> Result<Option<Vec<u16>>, AllocError>
-    ensures { IfOk result (λ o. MatchOption o (numbers-in line.now ≡ None) (λ v. numbers-in line.now ≡ Some v.items)) }
+    ensures { IfOk result (λ o. MatchOption o (numbers_in line.now ≡ None) (λ v. numbers_in line.now ≡ Some v.items)) }
 {
     let mut done = Vec::new(heap);
     let mut so_far = None;

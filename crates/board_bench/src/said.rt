@@ -1,6 +1,6 @@
 // What a frame line says: on which port, and where in the line its frame begins.
 ghost use Rattle.std.specs.Prelude.{◌≡◌, ◌≤◌, length, IfSome};
-ghost use Rattle.board_bench.specs.Saying.{port-told, said_in};
+ghost use Rattle.board_bench.specs.Saying.{port_told, said_in};
 
 use crate::number::number;
 use crate::place::place_of;
@@ -16,7 +16,7 @@ pub struct Said {
 
 // A port beyond the last is of no board either, so it is told as the last.
 fn port_told(port: u16) -> u8
-    ensures { result ≡ port-told port }
+    ensures { result ≡ port_told port }
 {
     if port > LAST_PORT {
         LAST_PORT as u8

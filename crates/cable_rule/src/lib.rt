@@ -4,9 +4,9 @@
 #![tactic(auto)]
 
 ghost use Rattle.std.specs.Prelude.{◌≡◌, true, false, MatchOption};
-ghost use Rattle.quorum.specs.Sets.{member, inCrew};
-ghost use Rattle.cable_rule.specs.Cables.{cable-rule, fair};
-ghost use Rattle.cable_rule.specs.CablesLemmas.{cable-lawful};
+ghost use Rattle.quorum.specs.Sets.{member, in_crew};
+ghost use Rattle.cable_rule.specs.Cables.{cable_rule, fair};
+ghost use Rattle.cable_rule.specs.CablesLemmas.{cable_lawful};
 
 use quorum::FailureRule;
 
@@ -35,7 +35,7 @@ fn on_cable(board: u8, cable: u16) -> bool
 
 // Whether the cable has only boards of the crew.
 fn in_crew(crew: u8, cable: u16) -> bool
-    ensures { result ≡ inCrew crew cable }
+    ensures { result ≡ in_crew crew cable }
 {
     if crew >= SET_BITS {
         return true;
@@ -46,7 +46,7 @@ fn in_crew(crew: u8, cable: u16) -> bool
 impl CableRule {
     // `spare` is a board on neither cable. Nothing is made where it is on one, or where a board is outside the crew.
     pub fn new(crew: u8, cover: u8, spare: u8, first: u16, second: u16) -> Option<CableRule>
-        ensures { MatchOption result (fair crew spare first second ≡ false) (λ x. (fair crew spare first second ≡ true) × (cable-rule x.crew x.cover x.first x.second ≡ cable-rule crew cover first second)) }
+        ensures { MatchOption result (fair crew spare first second ≡ false) (λ x. (fair crew spare first second ≡ true) × (cable_rule x.crew x.cover x.first x.second ≡ cable_rule crew cover first second)) }
     {
         let spared = (spare < crew) & !on_cable(spare, first) & !on_cable(spare, second);
         if spared & in_crew(crew, first) & in_crew(crew, second) {
@@ -63,9 +63,9 @@ impl CableRule {
 }
 
 impl FailureRule for CableRule {
-    ghost meaning = { λ x. cable-rule x.crew x.cover x.first x.second };
+    ghost meaning = { λ x. cable_rule x.crew x.cover x.first x.second };
 
-    ghost lawful = { λ x. cable-lawful x.crew x.cover x.spare x.first x.second x.good };
+    ghost lawful = { λ x. cable_lawful x.crew x.cover x.spare x.first x.second x.good };
 
     fn crew(&self) -> u8 {
         self.crew

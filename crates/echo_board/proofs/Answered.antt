@@ -4,15 +4,15 @@ use Rattle.std.proofs.lemmas.Bool.{cond-true, cond-false}
 use Rattle.vote.specs.declared.Vote.{Vote}
 use Rattle.vote.specs.Setting.{Setting}
 use Rattle.agreement.specs.Echo.{echo}
-use Rattle.vote.specs.News.{news-of}
+use Rattle.vote.specs.News.{news_of}
 use Rattle.heard.specs.Repeats.{repeats}
-use Rattle.echo_board.specs.Records.{answer-of}
+use Rattle.echo_board.specs.Records.{answer_of}
 
 module _ (S : Setting) (start : ℕ) (h : List Vote) (w : Vote) where
-  pub answer-repeat : repeats h w ≡ true → answer-of S start h w ≡ None
-  unfolding answer-of
-  answer-repeat e = cond-true _ _ _ e
+  pub answer_repeat : repeats h w ≡ true → answer_of S start h w ≡ None
+  unfolding answer_of
+  answer_repeat e = cond-true _ _ _ e
 
-  pub answer-new : repeats h w ≡ false → answer-of S start h w ≡ Some (news-of (echo S) start h w)
-  unfolding answer-of
-  answer-new e = cond-false _ _ _ e
+  pub answer_new : repeats h w ≡ false → answer_of S start h w ≡ Some (news_of (echo S) start h w)
+  unfolding answer_of
+  answer_new e = cond-false _ _ _ e

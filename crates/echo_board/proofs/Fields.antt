@@ -2,7 +2,7 @@
 use Rattle.std.proofs.Common.{◌≡◌, ℕ, zero, suc, ◌/◌, ◌%◌, ◌^◌, ◌<◌, ◌≤◌, Bool, false, ◌&&◌, ◌||◌, eqb, leb, List, None, Option, sym, refl, ap, ◌∙◌, arith}
 use Rattle.std.proofs.lemmas.Bool.{cond-true, cond-false, eq-eqb, ne_eqb, lt-leb}
 use Rattle.quorum.specs.Sets.{member}
-use Rattle.quorum.specs.Members.{member_is, member-setOf}
+use Rattle.quorum.specs.Members.{member_is, member_set_of}
 use Rattle.vote.specs.declared.Depth.{Depth}
 use Rattle.vote.specs.declared.Depth.TheVariants.{One, Two}
 use Rattle.vote.specs.declared.Vote.{Vote}
@@ -10,7 +10,7 @@ use Rattle.vote.specs.History.{Seen, seen, ever}
 use Rattle.vote.specs.Search.{is}
 use Rattle.vote.specs.Setting.{Setting}
 use Rattle.agreement.specs.Echo.{echoes, found, said, echoed, decided, posts}
-use Rattle.vote.proofs.Memories.{memo-none}
+use Rattle.vote.proofs.Memories.{memo_none}
 use Rattle.echo_board.specs.declared.board.EchoRecord.{EchoRecord}
 use Rattle.echo_board.specs.Records.{record_of}
 
@@ -26,9 +26,9 @@ no_test S d (suc (suc (suc (suc (suc zero))))) not2 not3 not4 not5 x = absurd (n
 no_test S One (suc (suc (suc (suc (suc (suc c)))))) not2 not3 not4 not5 x = refl
 no_test S Two (suc (suc (suc (suc (suc (suc c)))))) not2 not3 not4 not5 x = refl
 
-pub said-none : (S : Setting) (h : List Vote) (c : ℕ) → (c ≡ 2 → ⊥) → (c ≡ 3 → ⊥) → (c ≡ 4 → ⊥) → (c ≡ 5 → ⊥) → None ≡ said S h c
+pub said_none : (S : Setting) (h : List Vote) (c : ℕ) → (c ≡ 2 → ⊥) → (c ≡ 3 → ⊥) → (c ≡ 4 → ⊥) → (c ≡ 5 → ⊥) → None ≡ said S h c
 unfolding said
-said-none S h c not2 not3 not4 not5 = sym (memo-none (λ g. found S S.depth c (seen g)) (λ g. no_test S S.depth c not2 not3 not4 not5 (seen g)) h)
+said_none S h c not2 not3 not4 not5 = sym (memo_none (λ g. found S S.depth c (seen g)) (λ g. no_test S S.depth c not2 not3 not4 not5 (seen g)) h)
 
 -- ---- the fields of a record that shows h
 module _ (S : Setting) (s : ℕ) (h : List Vote) (o : EchoRecord) (e : o ≡ record_of S s h) where
@@ -36,36 +36,36 @@ module _ (S : Setting) (s : ℕ) (h : List Vote) (o : EchoRecord) (e : o ≡ rec
   unfolding record_of
   second_is = ap (λ (z : EchoRecord). z.second) e
 
-  pub third-is : o.third ≡ said S h 3
+  pub third_is : o.third ≡ said S h 3
   unfolding record_of
-  third-is = ap (λ (z : EchoRecord). z.third) e
+  third_is = ap (λ (z : EchoRecord). z.third) e
 
-  pub fourth-is : o.fourth ≡ said S h 4
+  pub fourth_is : o.fourth ≡ said S h 4
   unfolding record_of
-  fourth-is = ap (λ (z : EchoRecord). z.fourth) e
+  fourth_is = ap (λ (z : EchoRecord). z.fourth) e
 
-  pub fifth-is : o.fifth ≡ said S h 5
+  pub fifth_is : o.fifth ≡ said S h 5
   unfolding record_of
-  fifth-is = ap (λ (z : EchoRecord). z.fifth) e
+  fifth_is = ap (λ (z : EchoRecord). z.fifth) e
 
-  pub decision-is : o.decision ≡ decided S h
+  pub decision_is : o.decision ≡ decided S h
   unfolding record_of
-  decision-is = ap (λ (z : EchoRecord). z.decision) e
+  decision_is = ap (λ (z : EchoRecord). z.decision) e
 
-  pub echo-posted : (c v : ℕ) → v ≤ 8 → c ≡ 1 → eqb ((o.echoed / 2 ^ v) % 2) 1 ≡ posts S s h c v
+  pub echo_posted : (c v : ℕ) → v ≤ 8 → c ≡ 1 → eqb ((o.echoed / 2 ^ v) % 2) 1 ≡ posts S s h c v
   unfolding record_of posts
-  echo-posted c v l q =
-      sym (member_is v o.echoed) ∙ ap (λ (z : EchoRecord). member v z.echoed) e ∙ member-setOf 9 (echoed S s h) v (omega arith) ∙ sym (cond-true _ _ _ (eq-eqb c 1 q))
+  echo_posted c v l q =
+      sym (member_is v o.echoed) ∙ ap (λ (z : EchoRecord). member v z.echoed) e ∙ member_set_of 9 (echoed S s h) v (omega arith) ∙ sym (cond-true _ _ _ (eq-eqb c 1 q))
 
 -- no value beyond 8 is echoed
-pub echo-none : (S : Setting) (s : ℕ) (h : List Vote) (c v : ℕ) → s ≤ 8 → S.characters ≤ 8 → 8 < v → c ≡ 1 → false ≡ posts S s h c v
+pub echo_none : (S : Setting) (s : ℕ) (h : List Vote) (c v : ℕ) → s ≤ 8 → S.characters ≤ 8 → 8 < v → c ≡ 1 → false ≡ posts S s h c v
 unfolding posts echoed
-echo-none S s h c v l k high q =
+echo_none S s h c v l k high q =
     sym (cond-true _ _ _ (eq-eqb c 1 q) ∙ neither (eqb v s) (leb v S.characters) (ever (λ g. echoes S v (seen g)) h) (ne_eqb v s (omega arith)) (lt-leb v S.characters (omega arith)))
   where
     neither : (a b d : Bool) → a ≡ false → b ≡ false → (a || (b && d)) ≡ false
     neither a b d p r = rw (p, r)
 
-pub word-posted : (S : Setting) (s : ℕ) (h : List Vote) (c v : ℕ) (r : Option ℕ) → r ≡ said S h c → (c ≡ 1 → ⊥) → is v r ≡ posts S s h c v
+pub word_posted : (S : Setting) (s : ℕ) (h : List Vote) (c v : ℕ) (r : Option ℕ) → r ≡ said S h c → (c ≡ 1 → ⊥) → is v r ≡ posts S s h c v
 unfolding posts
-word-posted S s h c v r p q = ap (is v) p ∙ sym (cond-false _ _ _ (ne_eqb c 1 q))
+word_posted S s h c v r p q = ap (is v) p ∙ sym (cond-false _ _ _ (ne_eqb c 1 q))

@@ -3,7 +3,7 @@ use Rattle.std.proofs.Common.{◌≡◌, ℕ, ◌-◌, Bool, true, false, not, �
 use mathlib.Core.Bool.{and-false}
 use lib.Bits.{bit_or, bit_and}
 use Rattle.quorum.specs.Rules.{Rule}
-use Rattle.quorum.proofs.Masks.{setOf-ext, setOf-or, setOf-minus}
+use Rattle.quorum.proofs.Masks.{set_of_ext, set_of_or, set_of_minus}
 use Rattle.vote.specs.declared.Decision.{Decision}
 use Rattle.vote.specs.declared.Depth.{Depth}
 use Rattle.vote.specs.declared.Depth.TheVariants.{One, Two}
@@ -11,34 +11,34 @@ use Rattle.vote.specs.declared.Vote.{Vote}
 use Rattle.vote.specs.History.{Seen, seen, memo, ever}
 use Rattle.vote.specs.Setting.{Setting}
 use Rattle.agreement.specs.Echo.{decides, second, third, outcome, fifth, echoes, found, verdict, said, echoed, decided, posts, echo}
-use Rattle.vote.specs.News.{values, news-of}
+use Rattle.vote.specs.News.{values, news_of}
 use Rattle.heard.specs.declared.counted.Heard.{Heard}
-use Rattle.heard.specs.Shown.{heard-of, setting}
+use Rattle.heard.specs.Shown.{heard_of, setting}
 use Rattle.echo_board.specs.declared.board.EchoRecord.{EchoRecord}
 use Rattle.echo_board.specs.declared.findings.Findings.{Findings}
 use Rattle.echo_board.specs.Records.{record_of}
-use Rattle.echo_board.specs.Steps.{findings-of, hearing, remembering, fresh, news-in}
+use Rattle.echo_board.specs.Steps.{findings_of, hearing, remembering, fresh, news_in}
 
 -- ---- what the tests find, at either depth
-findings-ext : {a a' : ℕ} {b b' c c' d d' e e' : Option ℕ} {f f' : Option Decision} → a ≡ a' → b ≡ b' → c ≡ c' → d ≡ d' → e ≡ e' → f ≡ f'
+findings_ext : {a a' : ℕ} {b b' c c' d d' e e' : Option ℕ} {f f' : Option Decision} → a ≡ a' → b ≡ b' → c ≡ c' → d ≡ d' → e ≡ e' → f ≡ f'
     → ◌≡◌ {A = Findings} record { echoes = a; second = b; third = c; fourth = d; fifth = e; decision = f } record { echoes = a'; second = b'; third = c'; fourth = d'; fifth = e'; decision = f' }
-findings-ext p q r s t u = rw (p, q, r, s, t, u)
+findings_ext p q r s t u = rw (p, q, r, s, t, u)
 
 module _ (R : Rule) (k : ℕ) (x : Seen) (d : Depth) {a : ℕ} {b c : Option ℕ} {v : Option Decision} where
-  pub found-one : d ≡ One → a ≡ values (λ v. leb v k && echoes (setting R k One) v x) → b ≡ second (setting R k One) x → c ≡ third (setting R k One) x → v ≡ decides 1 (outcome (setting R k One) x)
-      → ◌≡◌ {A = Findings} record { echoes = a; second = b; third = c; fourth = None; fifth = None; decision = v } (findings-of (setting R k d) x)
-  unfolding findings-of found verdict
-  found-one q p1 p2 p3 p4 =
-      subst (λ (z : Depth). ◌≡◌ {A = Findings} record { echoes = a; second = b; third = c; fourth = None; fifth = None; decision = v } (findings-of (setting R k z) x)) (sym q)
-      (findings-ext p1 p2 p3 refl refl p4)
+  pub found_one : d ≡ One → a ≡ values (λ v. leb v k && echoes (setting R k One) v x) → b ≡ second (setting R k One) x → c ≡ third (setting R k One) x → v ≡ decides 1 (outcome (setting R k One) x)
+      → ◌≡◌ {A = Findings} record { echoes = a; second = b; third = c; fourth = None; fifth = None; decision = v } (findings_of (setting R k d) x)
+  unfolding findings_of found verdict
+  found_one q p1 p2 p3 p4 =
+      subst (λ (z : Depth). ◌≡◌ {A = Findings} record { echoes = a; second = b; third = c; fourth = None; fifth = None; decision = v } (findings_of (setting R k z) x)) (sym q)
+      (findings_ext p1 p2 p3 refl refl p4)
 
-  pub found-two : {e f : Option ℕ} → d ≡ Two → a ≡ values (λ v. leb v k && echoes (setting R k Two) v x) → b ≡ second (setting R k Two) x → c ≡ third (setting R k Two) x
+  pub found_two : {e f : Option ℕ} → d ≡ Two → a ≡ values (λ v. leb v k && echoes (setting R k Two) v x) → b ≡ second (setting R k Two) x → c ≡ third (setting R k Two) x
       → e ≡ outcome (setting R k Two) x → f ≡ fifth (setting R k Two) x → v ≡ verdict (setting R k Two) Two x
-      → ◌≡◌ {A = Findings} record { echoes = a; second = b; third = c; fourth = e; fifth = f; decision = v } (findings-of (setting R k d) x)
-  unfolding findings-of found
-  found-two {e} {f} q p1 p2 p3 p4 p5 p6 =
-      subst (λ (z : Depth). ◌≡◌ {A = Findings} record { echoes = a; second = b; third = c; fourth = e; fifth = f; decision = v } (findings-of (setting R k z) x)) (sym q)
-      (findings-ext p1 p2 p3 p4 p5 p6)
+      → ◌≡◌ {A = Findings} record { echoes = a; second = b; third = c; fourth = e; fifth = f; decision = v } (findings_of (setting R k d) x)
+  unfolding findings_of found
+  found_two {e} {f} q p1 p2 p3 p4 p5 p6 =
+      subst (λ (z : Depth). ◌≡◌ {A = Findings} record { echoes = a; second = b; third = c; fourth = e; fifth = f; decision = v } (findings_of (setting R k z) x)) (sym q)
+      (findings_ext p1 p2 p3 p4 p5 p6)
 
 -- ---- the echoes posted: before, or now
 keeps : (a l e t : Bool) → ((a || (l && e)) || (l && t)) ≡ (a || (l && (e || t)))
@@ -53,38 +53,38 @@ adds false true true t = and-false t
 adds false true false t = refl
 
 module _ (S : Setting) (s : ℕ) (h : List Vote) (w : Vote) where
-  echoes-now : ℕ → Bool
-  echoes-now v = leb v S.characters && echoes S v (seen (w ∷ h))
+  echoes_now : ℕ → Bool
+  echoes_now v = leb v S.characters && echoes S v (seen (w ∷ h))
 
-  echoes-kept : bit_or (values (echoed S s h)) (values echoes-now) ≡ values (echoed S s (w ∷ h))
-  unfolding echoes-now echoed ever
-  echoes-kept =
-      sym (setOf-or 9 (echoed S s h) echoes-now)
-      ∙ setOf-ext 9 _ _ (λ v l. keeps (eqb v s) (leb v S.characters) (ever (λ g. echoes S v (seen g)) h) (echoes S v (seen (w ∷ h))))
+  echoes_kept : bit_or (values (echoed S s h)) (values echoes_now) ≡ values (echoed S s (w ∷ h))
+  unfolding echoes_now echoed ever
+  echoes_kept =
+      sym (set_of_or 9 (echoed S s h) echoes_now)
+      ∙ set_of_ext 9 _ _ (λ v l. keeps (eqb v s) (leb v S.characters) (ever (λ g. echoes S v (seen g)) h) (echoes S v (seen (w ∷ h))))
 
-  echoes-new : values echoes-now - bit_and (values echoes-now) (values (echoed S s h)) ≡ values (λ v. echoed S s (w ∷ h) v && not (echoed S s h v))
-  unfolding echoes-now echoed ever
-  echoes-new =
-      setOf-minus 9 echoes-now (echoed S s h)
-      ∙ setOf-ext 9 _ _ (λ v l. adds (eqb v s) (leb v S.characters) (ever (λ g. echoes S v (seen g)) h) (echoes S v (seen (w ∷ h))))
+  echoes_new : values echoes_now - bit_and (values echoes_now) (values (echoed S s h)) ≡ values (λ v. echoed S s (w ∷ h) v && not (echoed S s h v))
+  unfolding echoes_now echoed ever
+  echoes_new =
+      set_of_minus 9 echoes_now (echoed S s h)
+      ∙ set_of_ext 9 _ _ (λ v l. adds (eqb v s) (leb v S.characters) (ever (λ g. echoes S v (seen g)) h) (echoes S v (seen (w ∷ h))))
 
   -- ---- the step
-  remembering-is : remembering (hearing (record_of S s h) (heard-of S.rule.crew (seen (w ∷ h)))) (findings-of S (seen (w ∷ h))) ≡ record_of S s (w ∷ h)
-  unfolding record_of findings-of said decided memo echoes-now
-  remembering-is =
-      ap (λ (z : ℕ). record { heard = heard-of S.rule.crew (seen (w ∷ h)); echoed = z; second = said S (w ∷ h) 2; third = said S (w ∷ h) 3; fourth = said S (w ∷ h) 4; fifth = said S (w ∷ h) 5; decision = decided S (w ∷ h) }) echoes-kept
+  remembering_is : remembering (hearing (record_of S s h) (heard_of S.rule.crew (seen (w ∷ h)))) (findings_of S (seen (w ∷ h))) ≡ record_of S s (w ∷ h)
+  unfolding record_of findings_of said decided memo echoes_now
+  remembering_is =
+      ap (λ (z : ℕ). record { heard = heard_of S.rule.crew (seen (w ∷ h)); echoed = z; second = said S (w ∷ h) 2; third = said S (w ∷ h) 3; fourth = said S (w ∷ h) 4; fifth = said S (w ∷ h) 5; decision = decided S (w ∷ h) }) echoes_kept
 
-  news-is : news-in (hearing (record_of S s h) (heard-of S.rule.crew (seen (w ∷ h)))) (findings-of S (seen (w ∷ h))) ≡ news-of (echo S) s h w
-  unfolding record_of findings-of news-of fresh posts said memo echoes-now
-  news-is = rw echoes-new
+  news_is : news_in (hearing (record_of S s h) (heard_of S.rule.crew (seen (w ∷ h)))) (findings_of S (seen (w ∷ h))) ≡ news_of (echo S) s h w
+  unfolding record_of findings_of news_of fresh posts said memo echoes_now
+  news_is = rw echoes_new
 
-  module _ (o : EchoRecord) (y : Heard) (f : Findings) (p : o ≡ record_of S s h) (q : y ≡ heard-of S.rule.crew (seen (w ∷ h))) (r : f ≡ findings-of S (seen (w ∷ h))) where
+  module _ (o : EchoRecord) (y : Heard) (f : Findings) (p : o ≡ record_of S s h) (q : y ≡ heard_of S.rule.crew (seen (w ∷ h))) (r : f ≡ findings_of S (seen (w ∷ h))) where
     pub remembers : remembering (hearing o y) f ≡ record_of S s (w ∷ h)
-    remembers = rw (p, q, r) remembering-is
+    remembers = rw (p, q, r) remembering_is
 
-    pub tells : news-in (hearing o y) f ≡ news-of (echo S) s h w
-    tells = rw (p, r) news-is
+    pub tells : news_in (hearing o y) f ≡ news_of (echo S) s h w
+    tells = rw (p, r) news_is
 
-pub heard-in : (S : Setting) (s : ℕ) (h : List Vote) (o : EchoRecord) → o ≡ record_of S s h → o.heard ≡ heard-of S.rule.crew (seen h)
+pub heard_in : (S : Setting) (s : ℕ) (h : List Vote) (o : EchoRecord) → o ≡ record_of S s h → o.heard ≡ heard_of S.rule.crew (seen h)
 unfolding record_of
-heard-in S s h o e = ap (λ (z : EchoRecord). z.heard) e
+heard_in S s h o e = ap (λ (z : EchoRecord). z.heard) e

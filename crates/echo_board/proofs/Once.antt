@@ -3,12 +3,12 @@ use Rattle.std.proofs.Common.{◌≡◌, ℕ, Bool, true, false, cond, ◌&&◌,
 use Rattle.std.proofs.lemmas.Bool.{false≢true, and_parts, eqb-true, eq-eqb}
 use Rattle.quorum.specs.Truth.{clash}
 use Rattle.vote.specs.declared.Vote.{Vote}
-use Rattle.vote.specs.History.{Seen, seen, of-kind, counted, first, memo, ever}
+use Rattle.vote.specs.History.{Seen, seen, of_kind, counted, first, memo, ever}
 use Rattle.vote.specs.Search.{or_else, when, given, is}
 use Rattle.vote.specs.Setting.{Setting}
 use Rattle.agreement.specs.Echo.{echoes, found, verdict, said, echoed, decided, posts}
-use Rattle.vote.proofs.Options.{else-twice}
-use Rattle.vote.proofs.Counting.{vote-is, counted-first}
+use Rattle.vote.proofs.Options.{else_twice}
+use Rattle.vote.proofs.Counting.{vote_is, counted_first}
 use Rattle.heard.specs.Repeats.{repeats}
 
 or_same : (a b : Bool) → (b ≡ true → a ≡ true) → (a || b) ≡ a
@@ -25,10 +25,10 @@ cond_cases : (b x y : Bool) → cond b x y ≡ true → ((b ≡ true) × (x ≡ 
 cond_cases true x y p = inl (refl, p)
 cond_cases false x y p = inr (refl, p)
 
-or-twice : (m x : Bool) → ((m || x) || x) ≡ (m || x)
-or-twice true x = refl
-or-twice false true = refl
-or-twice false false = refl
+or_twice : (m x : Bool) → ((m || x) || x) ≡ (m || x)
+or_twice true x = refl
+or_twice false true = refl
+or_twice false false = refl
 
 -- ---- what the tests look at is the same
 module _ (h : List Vote) (w : Vote) (rep : repeats h w ≡ true) where
@@ -36,50 +36,50 @@ module _ (h : List Vote) (w : Vote) (rep : repeats h w ≡ true) where
   unfolding repeats
   ways = cond_cases (eqb w.kind 1) _ _ rep
 
-  echo-same : (v i : ℕ) → counted (w ∷ h) 1 v i ≡ counted h 1 v i
+  echo_same : (v i : ℕ) → counted (w ∷ h) 1 v i ≡ counted h 1 v i
   unfolding counted
-  echo-same v i =
-      or_same (counted h 1 v i) (of-kind 1 i w && eqb w.value v) (λ p.
-      let k = vote-is w 1 v i p in
+  echo_same v i =
+      or_same (counted h 1 v i) (of_kind 1 i w && eqb w.value v) (λ p.
+      let k = vote_is w 1 v i p in
       ⊎_elim (λ a. subst₂ (λ (x y : ℕ). counted h 1 x y ≡ true) k.2 k.1 a.1) (λ b. clash (eq-eqb _ _ k.0) b.0) ways)
 
   pub repeated : given (first h w.kind w.sender) ≡ true
   repeated =
-      ⊎_elim (λ a. subst (λ (x : ℕ). given (first h x w.sender) ≡ true) (sym (eqb-true _ _ a.0)) (counted-first h 1 w.value w.sender a.1)) (λ b. b.1) ways
+      ⊎_elim (λ a. subst (λ (x : ℕ). given (first h x w.sender) ≡ true) (sym (eqb-true _ _ a.0)) (counted_first h 1 w.value w.sender a.1)) (λ b. b.1) ways
 
-  first-same : (c i : ℕ) → first (w ∷ h) c i ≡ first h c i
+  first_same : (c i : ℕ) → first (w ∷ h) c i ≡ first h c i
   unfolding first
-  first-same c i =
-      else_same (first h c i) (of-kind c i w) w.value (λ p.
+  first_same c i =
+      else_same (first h c i) (of_kind c i w) w.value (λ p.
       let k = and_parts (eqb w.kind c) _ p in
       subst₂ (λ (x y : ℕ). given (first h x y) ≡ true) (eqb-true _ _ k.0) (eqb-true _ _ k.1) repeated)
 
   pub seen_same : seen (w ∷ h) ≡ seen h
-  seen_same = λ i. record { echo = λ v j. echo-same v j i; first = λ c j. first-same c j i }
+  seen_same = λ i. record { echo = λ v j. echo_same v j i; first = λ c j. first_same c j i }
 
 none_first : (c i : ℕ) → given (first [] c i) ≡ false
 unfolding first
 none_first c i = refl
 
 -- ---- and so is what is remembered
-memo-same : {A : Type 0} (t : Seen → Option A) (h : List Vote) (w : Vote) → repeats h w ≡ true → memo (λ g. t (seen g)) (w ∷ h) ≡ memo (λ g. t (seen g)) h
+memo_same : {A : Type 0} (t : Seen → Option A) (h : List Vote) (w : Vote) → repeats h w ≡ true → memo (λ g. t (seen g)) (w ∷ h) ≡ memo (λ g. t (seen g)) h
 unfolding memo
-memo-same t [] w rep = clash (repeated [] w rep) (none_first w.kind w.sender)
-memo-same t (u ∷ h) w rep =
-    ap (λ (x : Seen). or_else (or_else (memo (λ g. t (seen g)) h) (t (seen (u ∷ h)))) (t x)) (seen_same (u ∷ h) w rep) ∙ else-twice (memo (λ g. t (seen g)) h) (t (seen (u ∷ h)))
+memo_same t [] w rep = clash (repeated [] w rep) (none_first w.kind w.sender)
+memo_same t (u ∷ h) w rep =
+    ap (λ (x : Seen). or_else (or_else (memo (λ g. t (seen g)) h) (t (seen (u ∷ h)))) (t x)) (seen_same (u ∷ h) w rep) ∙ else_twice (memo (λ g. t (seen g)) h) (t (seen (u ∷ h)))
 
-ever-same : (t : Seen → Bool) (h : List Vote) (w : Vote) → repeats h w ≡ true → ever (λ g. t (seen g)) (w ∷ h) ≡ ever (λ g. t (seen g)) h
+ever_same : (t : Seen → Bool) (h : List Vote) (w : Vote) → repeats h w ≡ true → ever (λ g. t (seen g)) (w ∷ h) ≡ ever (λ g. t (seen g)) h
 unfolding ever
-ever-same t [] w rep = clash (repeated [] w rep) (none_first w.kind w.sender)
-ever-same t (u ∷ h) w rep =
-    ap (λ (x : Seen). (ever (λ g. t (seen g)) h || t (seen (u ∷ h))) || t x) (seen_same (u ∷ h) w rep) ∙ or-twice (ever (λ g. t (seen g)) h) (t (seen (u ∷ h)))
+ever_same t [] w rep = clash (repeated [] w rep) (none_first w.kind w.sender)
+ever_same t (u ∷ h) w rep =
+    ap (λ (x : Seen). (ever (λ g. t (seen g)) h || t (seen (u ∷ h))) || t x) (seen_same (u ∷ h) w rep) ∙ or_twice (ever (λ g. t (seen g)) h) (t (seen (u ∷ h)))
 
 module _ (S : Setting) (h : List Vote) (w : Vote) (rep : repeats h w ≡ true) where
-  pub posts-same : (start c v : ℕ) → posts S start (w ∷ h) c v ≡ posts S start h c v
+  pub posts_same : (start c v : ℕ) → posts S start (w ∷ h) c v ≡ posts S start h c v
   unfolding posts echoed said
-  posts-same start c v =
-      ap₂ (λ (a : Bool) (o : Option ℕ). cond (eqb c 1) (eqb v start || (leb v S.characters && a)) (is v o)) (ever-same (echoes S v) h w rep) (memo-same (found S S.depth c) h w rep)
+  posts_same start c v =
+      ap₂ (λ (a : Bool) (o : Option ℕ). cond (eqb c 1) (eqb v start || (leb v S.characters && a)) (is v o)) (ever_same (echoes S v) h w rep) (memo_same (found S S.depth c) h w rep)
 
-  pub decided-same : decided S (w ∷ h) ≡ decided S h
+  pub decided_same : decided S (w ∷ h) ≡ decided S h
   unfolding decided
-  decided-same = memo-same (verdict S S.depth) h w rep
+  decided_same = memo_same (verdict S S.depth) h w rep

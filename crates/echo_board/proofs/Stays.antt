@@ -8,41 +8,41 @@ use Rattle.vote.specs.Search.{is}
 use Rattle.vote.specs.Setting.{Setting}
 use Rattle.agreement.specs.Echo.{echoes, found, verdict, said, echoed, decided, posts, echo}
 use Rattle.vote.specs.News.{newly}
-use Rattle.vote.proofs.Options.{is_found, is-from, holds-one}
-use Rattle.vote.proofs.Memories.{memo-stays, ever-stays}
+use Rattle.vote.proofs.Options.{is_found, is_from, holds_one}
+use Rattle.vote.proofs.Memories.{memo_stays, ever_stays}
 
 module _ (S : Setting) where
-  pub decision-stays : (g h : List Vote) (d : Decision) → decided S h ≡ Some d → decided S (g ++ h) ≡ Some d
+  pub decision_stays : (g h : List Vote) (d : Decision) → decided S h ≡ Some d → decided S (g ++ h) ≡ Some d
   unfolding decided
-  decision-stays g h d p = memo-stays (λ g. verdict S S.depth (seen g)) g h d p
+  decision_stays g h d p = memo_stays (λ g. verdict S S.depth (seen g)) g h d p
 
-  said-stays : (g h : List Vote) (c v : ℕ) → said S h c ≡ Some v → said S (g ++ h) c ≡ Some v
+  said_stays : (g h : List Vote) (c v : ℕ) → said S h c ≡ Some v → said S (g ++ h) c ≡ Some v
   unfolding said
-  said-stays g h c v p = memo-stays (λ g. found S S.depth c (seen g)) g h v p
+  said_stays g h c v p = memo_stays (λ g. found S S.depth c (seen g)) g h v p
 
   module _ (start : ℕ) where
-    echo-stays : (g h : List Vote) (v : ℕ) → echoed S start h v ≡ true → echoed S start (g ++ h) v ≡ true
+    echo_stays : (g h : List Vote) (v : ℕ) → echoed S start h v ≡ true → echoed S start (g ++ h) v ≡ true
     unfolding echoed
-    echo-stays g h v p =
+    echo_stays g h v p =
         ⊎_elim (λ e. or_left (eqb v start) _ e)
-        (λ e. let k = and_parts (leb v S.characters) _ e in or_right (eqb v start) _ (and_from _ _ k.0 (ever-stays (λ g. echoes S v (seen g)) g h k.1)))
+        (λ e. let k = and_parts (leb v S.characters) _ e in or_right (eqb v start) _ (and_from _ _ k.0 (ever_stays (λ g. echoes S v (seen g)) g h k.1)))
         (or_cases (eqb v start) _ p)
 
     -- the posted word of a kind but 1 is the one said
-    pub word-said : (h : List Vote) (c v : ℕ) → (c ≡ 1 → ⊥) → posts S start h c v ≡ true → said S h c ≡ Some v
+    pub word_said : (h : List Vote) (c v : ℕ) → (c ≡ 1 → ⊥) → posts S start h c v ≡ true → said S h c ≡ Some v
     unfolding posts
-    word-said h c v ne p = is_found v (said S h c) (sym (cond-false _ _ _ (ne_eqb c 1 ne)) ∙ p)
+    word_said h c v ne p = is_found v (said S h c) (sym (cond-false _ _ _ (ne_eqb c 1 ne)) ∙ p)
 
-    pub word-stays : (g h : List Vote) (c v : ℕ) → posts S start h c v ≡ true → posts S start (g ++ h) c v ≡ true
+    pub word_stays : (g h : List Vote) (c v : ℕ) → posts S start h c v ≡ true → posts S start (g ++ h) c v ≡ true
     unfolding posts
-    word-stays g h c v p = either (eqb c 1) p
+    word_stays g h c v p = either (eqb c 1) p
       where
         either : (b : Bool) → cond b (echoed S start h v) (is v (said S h c)) ≡ true → cond b (echoed S start (g ++ h) v) (is v (said S (g ++ h) c)) ≡ true
-        either true q = echo-stays g h v q
-        either false q = is-from v (said-stays g h c v (is_found v (said S h c) q))
+        either true q = echo_stays g h v q
+        either false q = is_from v (said_stays g h c v (is_found v (said S h c) q))
 
-    pub posted-once : (g h : List Vote) (w : Vote) (c v : ℕ) → posts S start h c v ≡ true → newly (echo S) start (g ++ h) w c v ≡ false
-    posted-once g h w c v p = and_right _ _ (not_from_true _ (word-stays g h c v p))
+    pub posted_once : (g h : List Vote) (w : Vote) (c v : ℕ) → posts S start h c v ≡ true → newly (echo S) start (g ++ h) w c v ≡ false
+    posted_once g h w c v p = and_right _ _ (not_from_true _ (word_stays g h c v p))
 
     pub one_word : (g h : List Vote) (c u v : ℕ) → (c ≡ 1 → ⊥) → posts S start h c u ≡ true → posts S start (g ++ h) c v ≡ true → u ≡ v
-    one_word g h c u v ne p q = holds-one (word-said (g ++ h) c u ne (word-stays g h c u p)) (word-said (g ++ h) c v ne q)
+    one_word g h c u v ne p q = holds_one (word_said (g ++ h) c u ne (word_stays g h c u p)) (word_said (g ++ h) c v ne q)

@@ -11,8 +11,8 @@ use Rattle.echo_board.specs.declared.board.EchoRecord.{EchoRecord}
 use Rattle.echo_board.specs.declared.findings.Findings.{Findings}
 
 -- what the seven tests make of all that is counted
-unfoldable pub findings-of : Setting → Seen → Findings
-findings-of S x = record {
+unfoldable pub findings_of : Setting → Seen → Findings
+findings_of S x = record {
   echoes = values (λ v. nat_le v S.characters && echoes S v x);
   second = found S S.depth 2 x;
   third = found S S.depth 3 x;
@@ -41,7 +41,7 @@ remembering o f = record {
 unfoldable pub fresh : Option ℕ → Option ℕ → ℕ
 fresh before now = values (λ v. is v (or_else before now) && not (is v before))
 
-abbrev pub news-in : EchoRecord → Findings → News
-news-in o f = record {
+abbrev pub news_in : EchoRecord → Findings → News
+news_in o f = record {
   kinds = (f.echoes - bit_and f.echoes o.echoed) ∷ fresh o.second f.second ∷ fresh o.third f.third ∷ fresh o.fourth f.fourth ∷ fresh o.fifth f.fifth ∷ [];
 }

@@ -1,11 +1,11 @@
 // The record of a board, and how it counts a vote.
 ghost use Rattle.std.specs.Prelude.{◌≡◌, ◌<◌, ◌≤◌, []};
-ghost use Rattle.echo_board.specs.Laws.{Echo-board-keeps};
+ghost use Rattle.echo_board.specs.Laws.{EchoBoardKeeps};
 ghost use Rattle.echo_board.specs.Records.{record_of, Counts};
-ghost use Rattle.echo_board.specs.Steps.{remembering, news-in};
-ghost use Rattle.heard.specs.Limits.{max-characters, max-kind};
+ghost use Rattle.echo_board.specs.Steps.{remembering, news_in};
+ghost use Rattle.heard.specs.Limits.{max_characters, max_kind};
 ghost use Rattle.heard.specs.Shown.{setting};
-ghost use Rattle.quorum.specs.Limits.{max-crew};
+ghost use Rattle.quorum.specs.Limits.{max_crew};
 ghost use Rattle.vote.specs.Setting.{Setting};
 
 use crate::findings::{Findings, find};
@@ -40,7 +40,7 @@ pub fn record_size() -> usize
 impl EchoRecord {
     // Nothing is counted, and the starting character is echoed.
     pub fn start(start: u8) -> EchoRecord
-        requires { start ≤ max-characters }
+        requires { start ≤ max_characters }
         ensures { (S : Setting) → result ≡ record_of S start [] }
     {
         EchoRecord {
@@ -57,7 +57,7 @@ impl EchoRecord {
     // Keeps what is there, and otherwise what is found. So the first answer of a test stays, and a decision never changes.
     fn remember(&mut self, found: Findings) -> News
         ensures after { self.new ≡ remembering self.old found }
-        ensures news { result ≡ news-in self.old found }
+        ensures news { result ≡ news_in self.old found }
     {
         let echoes = found.echoes - (found.echoes & self.echoed);
         let second = fresh(self.second, found.second);
@@ -83,12 +83,12 @@ impl EchoRecord {
         depth: Depth,
         vote: Vote,
     ) -> Option<News>
-        requires crew { (R.meaning rule.now).crew ≤ max-crew }
+        requires crew { (R.meaning rule.now).crew ≤ max_crew }
         requires sender { vote.sender < (R.meaning rule.now).crew }
-        requires kind { (1 ≤ vote.kind) × (vote.kind ≤ max-kind) }
-        requires value { (vote.value ≤ characters) × (characters ≤ max-characters) }
+        requires kind { (1 ≤ vote.kind) × (vote.kind ≤ max_kind) }
+        requires value { (vote.value ≤ characters) × (characters ≤ max_characters) }
         ensures counts { Counts (setting (R.meaning rule.now) characters depth) vote self.old self.new result }
-        ensures keeps { Echo-board-keeps (setting (R.meaning rule.now) characters depth) }
+        ensures keeps { EchoBoardKeeps (setting (R.meaning rule.now) characters depth) }
     {
         if self.heard.repeats(vote) {
             return None;

@@ -1,8 +1,8 @@
 // What the seven tests make of what is counted now, whatever was found before.
 ghost use Rattle.std.specs.Prelude.{◌≡◌, ◌≤◌};
-ghost use Rattle.echo_board.specs.Steps.{findings-of};
-ghost use Rattle.heard.specs.Limits.{max-characters};
-ghost use Rattle.heard.specs.Shown.{heard-of, setting};
+ghost use Rattle.echo_board.specs.Steps.{findings_of};
+ghost use Rattle.heard.specs.Limits.{max_characters};
+ghost use Rattle.heard.specs.Shown.{heard_of, setting};
 ghost use Rattle.vote.specs.History.{Seen};
 
 use heard::{Heard, decision};
@@ -27,8 +27,8 @@ pub(crate) fn find<R: FailureRule>(
     characters: u8,
     depth: Depth,
 ) -> Findings
-    requires { characters ≤ max-characters }
-    ensures { (x : Seen) → heard.now ≡ heard-of (R.meaning rule.now).crew x → result ≡ findings-of (setting (R.meaning rule.now) characters depth) x }
+    requires { characters ≤ max_characters }
+    ensures { (x : Seen) → heard.now ≡ heard_of (R.meaning rule.now).crew x → result ≡ findings_of (setting (R.meaning rule.now) characters depth) x }
 {
     let echoes = heard.echoes(rule, characters);
     let second = heard.second(rule, characters);

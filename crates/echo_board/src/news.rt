@@ -1,9 +1,9 @@
 // Words as sets of values: value v adds 2 to the power v.
 ghost use Rattle.std.specs.Prelude.{◌≡◌, ◌≤◌};
 ghost use Rattle.echo_board.specs.Steps.{fresh as fresh_of};
-ghost use Rattle.heard.specs.Limits.{max-characters};
+ghost use Rattle.heard.specs.Limits.{max_characters};
 ghost use Rattle.agreement.specs.Echo.{echo};
-ghost use Rattle.vote.specs.News.{values, first-news};
+ghost use Rattle.vote.specs.News.{values, first_news};
 ghost use Rattle.vote.specs.Search.{is};
 ghost use Rattle.vote.specs.Setting.{Setting};
 
@@ -37,8 +37,8 @@ pub(crate) fn fresh(before: Option<u8>, found: Option<u8>) -> u16
 
 // What a board posts as it starts with a character: its echo.
 pub fn first_news(start: u8) -> News
-    requires { start ≤ max-characters }
-    ensures { (S : Setting) → result ≡ first-news (echo S) start }
+    requires { start ≤ max_characters }
+    ensures { (S : Setting) → result ≡ first_news (echo S) start }
 {
     News {
         kinds: [1 << start, 0, 0, 0, 0],

@@ -1,8 +1,8 @@
 // What a record holds: the words posted and the decision.
 ghost use Rattle.std.specs.Prelude.{◌≡◌, ℕ, ◌≤◌, List, ◌≢◌};
 ghost use Rattle.echo_board.specs.Records.{record_of};
-ghost use Rattle.heard.specs.Limits.{max-characters};
-ghost use Rattle.agreement.specs.Echo.{posts, said as saidBy, decided as decidedBy};
+ghost use Rattle.heard.specs.Limits.{max_characters};
+ghost use Rattle.agreement.specs.Echo.{posts, said as said_by, decided as decided_by};
 ghost use Rattle.vote.specs.Search.{is};
 ghost use Rattle.vote.specs.Setting.{Setting};
 ghost use Rattle.vote.specs.declared.Vote.{Vote};
@@ -27,14 +27,14 @@ fn bears(word: Option<u8>, value: u8) -> bool
 impl EchoRecord {
     // What is decided, if anything is.
     pub fn decided(&self) -> Option<Decision>
-        ensures { (S : Setting) (start : ℕ) (h : List Vote) → self.now ≡ record_of S start h → result ≡ decidedBy S h }
+        ensures { (S : Setting) (start : ℕ) (h : List Vote) → self.now ≡ record_of S start h → result ≡ decided_by S h }
     {
         self.decision
     }
 
     // The word of a kind other than 1 that is posted, if it is.
     fn said(&self, kind: u8) -> Option<u8>
-        ensures { (S : Setting) (start : ℕ) (h : List Vote) → self.now ≡ record_of S start h → (kind ≢ 1) → result ≡ saidBy S h kind }
+        ensures { (S : Setting) (start : ℕ) (h : List Vote) → self.now ≡ record_of S start h → (kind ≢ 1) → result ≡ said_by S h kind }
     {
         match kind {
             2 => self.second,
@@ -47,7 +47,7 @@ impl EchoRecord {
 
     // Whether the word of this kind and value is posted, whatever these numbers are.
     pub fn has_posted(&self, kind: u8, value: u8) -> bool
-        ensures { (S : Setting) (start : ℕ) (h : List Vote) → start ≤ max-characters → S.characters ≤ max-characters → self.now ≡ record_of S start h → result ≡ posts S start h kind value }
+        ensures { (S : Setting) (start : ℕ) (h : List Vote) → start ≤ max_characters → S.characters ≤ max_characters → self.now ≡ record_of S start h → result ≡ posts S start h kind value }
     {
         if kind != ECHO {
             return bears(self.said(kind), value);

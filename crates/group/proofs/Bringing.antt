@@ -5,12 +5,12 @@ use Rattle.quorum.specs.Rules.{Rule}
 use Rattle.wire.specs.declared.fault.FrameFault.{FrameFault}
 use Rattle.wire.specs.declared.word.Word.{Word}
 use Rattle.wire.specs.Faults.{fault}
-use Rattle.wire.specs.Frames.{carried, frame-of}
-use Rattle.wire.specs.Writes.{word-written, fitting, unless, buffer-after}
-use Rattle.wire.proofs.FrameText.{carried-ranges, frame-max-length}
-use Rattle.wire.proofs.Ranging.{ranges-none}
-use Rattle.wire.proofs.Outcomes.{ok_same, ok-not-err}
-use Rattle.wire.proofs.PutAt.{front-filled}
+use Rattle.wire.specs.Frames.{carried, frame_of}
+use Rattle.wire.specs.Writes.{word_written, fitting, unless, buffer_after}
+use Rattle.wire.proofs.FrameText.{carried_ranges, frame_max_length}
+use Rattle.wire.proofs.Ranging.{ranges_none}
+use Rattle.wire.proofs.Outcomes.{ok_same, ok_not_err}
+use Rattle.wire.proofs.PutAt.{front_filled}
 use Rattle.board.specs.declared.fault.BoardFault.{BoardFault}
 use Rattle.group.specs.declared.fault.GroupFault.{GroupFault}
 use Rattle.group.specs.declared.records.Records.{Records}
@@ -19,24 +19,24 @@ use Rattle.group.specs.declared.turn.Turn.{Turn}
 use Rattle.group.specs.Steps.{raised, Takes, Brings}
 
 -- a word that a frame can carry is written
-pub written_is : (w : Word) → carried w ≡ true → word-written w 19 ≡ Ok (length (frame-of w))
+pub written_is : (w : Word) → carried w ≡ true → word_written w 19 ≡ Ok (length (frame_of w))
 written_is w p =
-    let ranges = carried-ranges w p in
-    ap (λ o. unless o (fitting (frame-of w) 19)) (ranges-none w ranges)
-    ∙ ap (λ b. cond b (Ok (length (frame-of w))) (Err (fault 20 0))) (le-leb (length (frame-of w)) 19 (frame-max-length w ranges))
+    let ranges = carried_ranges w p in
+    ap (λ o. unless o (fitting (frame_of w) 19)) (ranges_none w ranges)
+    ∙ ap (λ b. cond b (Ok (length (frame_of w))) (Err (fault 20 0))) (le-leb (length (frame_of w)) 19 (frame_max_length w ranges))
 
-pub never-refused : {X : Type 0} (w : Word) (e : FrameFault) → carried w ≡ true → Err e ≡ word-written w 19 → X
-never-refused w e p q = ok-not-err (length (frame-of w)) e (sym (q ∙ written_is w p))
+pub never_refused : {X : Type 0} (w : Word) (e : FrameFault) → carried w ≡ true → Err e ≡ word_written w 19 → X
+never_refused w e p q = ok_not_err (length (frame_of w)) e (sym (q ∙ written_is w p))
 
 -- what is read of the buffer is the word's frame
-pub frame-read : (w : Word) (n : ℕ) (old buf : List ℕ) → length old ≡ 19 → Ok n ≡ word-written w 19 → buf ≡ buffer-after (frame-of w) (Ok n) old → carried w ≡ true → take (n - 0) buf ≡ frame-of w
-frame-read w n old buf len q is p =
-    let whole : n ≡ length (frame-of w) = ok_same n (length (frame-of w)) (q ∙ written_is w p) in
-    let same : n - 0 ≡ length (frame-of w) = omega (arith, whole) in
-    ap (λ (k : ℕ). take k buf) same ∙ ap (take (length (frame-of w))) is ∙ front-filled (frame-of w) (length old)
+pub frame_read : (w : Word) (n : ℕ) (old buf : List ℕ) → length old ≡ 19 → Ok n ≡ word_written w 19 → buf ≡ buffer_after (frame_of w) (Ok n) old → carried w ≡ true → take (n - 0) buf ≡ frame_of w
+frame_read w n old buf len q is p =
+    let whole : n ≡ length (frame_of w) = ok_same n (length (frame_of w)) (q ∙ written_is w p) in
+    let same : n - 0 ≡ length (frame_of w) = omega (arith, whole) in
+    ap (λ (k : ℕ). take k buf) same ∙ ap (take (length (frame_of w))) is ∙ front_filled (frame_of w) (length old)
 
 module _ (R : Rule) (T : Terms) (j : ℕ) (w : Word) (o p : Records) where
-  pub brought : (xs : List ℕ) (a : Result Turn (ℕ × BoardFault)) (r : Result Turn GroupFault) → (carried w ≡ true → xs ≡ frame-of w) → r ≡ raised a → Takes R T j w.sender xs o p a
+  pub brought : (xs : List ℕ) (a : Result Turn (ℕ × BoardFault)) (r : Result Turn GroupFault) → (carried w ≡ true → xs ≡ frame_of w) → r ≡ raised a → Takes R T j w.sender xs o p a
       → Brings R T j w o p r
   brought xs a r is up takes good h shown =
       let t = subst (λ (ys : List ℕ). Takes R T j w.sender ys o p a) (is good) takes h shown in

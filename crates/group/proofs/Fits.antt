@@ -6,32 +6,32 @@ use Rattle.quorum.specs.Sets.{member}
 use Rattle.vote.specs.declared.Method.{Method}
 use Rattle.vote.specs.declared.Method.TheVariants.{Plain, Echo}
 use Rattle.vote.specs.Setting.{Setting}
-use Rattle.agreement.specs.Methods.{method-of}
-use Rattle.wire.proofs.FrameText.{within-from}
-use Rattle.board.specs.Sound.{sound-fit}
+use Rattle.agreement.specs.Methods.{method_of}
+use Rattle.wire.proofs.FrameText.{within_from}
+use Rattle.board.specs.Sound.{sound_fit}
 use Rattle.group.specs.declared.terms.Terms.{Terms}
-use Rattle.group.specs.Terms.{setting-in, start-at, lies}
+use Rattle.group.specs.Terms.{setting_in, start_at, lies}
 use Rattle.group.proofs.Numbers.{numbers}
 
-pub fit-sound : (T : Terms) (i : ℕ) → i < 16 → sound-fit T.characters T.group T.change i (start-at T i) ≡ true
-fit-sound T i l =
+pub fit_sound : (T : Terms) (i : ℕ) → i < 16 → sound_fit T.characters T.group T.change i (start_at T i) ≡ true
+fit_sound T i l =
     let n = numbers T in
     let s = n.start_fits i l in
-    and_from _ _ (within-from 1 8 T.characters n.characters-low n.characters-high)
-    (and_from _ _ (within-from 1 65535 T.group n.group-low n.group-high)
-    (and_from _ _ (within-from 1 65535 T.change n.change-low n.change-high)
-    (and_from _ _ (within-from 0 15 i (omega arith) (omega (arith, l))) (within-from 1 T.characters (start-at T i) s.0 s.1))))
+    and_from _ _ (within_from 1 8 T.characters n.characters_low n.characters_high)
+    (and_from _ _ (within_from 1 65535 T.group n.group_low n.group_high)
+    (and_from _ _ (within_from 1 65535 T.change n.change_low n.change_high)
+    (and_from _ _ (within_from 0 15 i (omega arith) (omega (arith, l))) (within_from 1 T.characters (start_at T i) s.0 s.1))))
 
-plain-lies : (m : Method) (S : Setting) (b : Bool) → m ≡ Plain → false ≡ ((method-of m S).may-lie && b)
-plain-lies Plain S b e = refl
-plain-lies Echo S b e = absurd (let z : ◌≡◌ {A = ℕ} 0 1 = cc in omega arith)
+plain_lies : (m : Method) (S : Setting) (b : Bool) → m ≡ Plain → false ≡ ((method_of m S).may_lie && b)
+plain_lies Plain S b e = refl
+plain_lies Echo S b e = absurd (let z : ◌≡◌ {A = ℕ} 0 1 = cc in omega arith)
 
-echo-lies : (m : Method) (S : Setting) (b : Bool) → m ≡ Echo → b ≡ ((method-of m S).may-lie && b)
-echo-lies Echo S b e = refl
-echo-lies Plain S b e = absurd (let z : ◌≡◌ {A = ℕ} 0 1 = cc in omega arith)
+echo_lies : (m : Method) (S : Setting) (b : Bool) → m ≡ Echo → b ≡ ((method_of m S).may_lie && b)
+echo_lies Echo S b e = refl
+echo_lies Plain S b e = absurd (let z : ◌≡◌ {A = ℕ} 0 1 = cc in omega arith)
 
-pub none-lies : (R : Rule) (T : Terms) (i : ℕ) → T.method ≡ Plain → false ≡ lies R T i
-none-lies R T i e = plain-lies T.method (setting-in R T) (member i T.listed) e
+pub none_lies : (R : Rule) (T : Terms) (i : ℕ) → T.method ≡ Plain → false ≡ lies R T i
+none_lies R T i e = plain_lies T.method (setting_in R T) (member i T.listed) e
 
-pub listed-lies : (R : Rule) (T : Terms) (i : ℕ) → T.method ≡ Echo → member i T.listed ≡ lies R T i
-listed-lies R T i e = echo-lies T.method (setting-in R T) (member i T.listed) e
+pub listed_lies : (R : Rule) (T : Terms) (i : ℕ) → T.method ≡ Echo → member i T.listed ≡ lies R T i
+listed_lies R T i e = echo_lies T.method (setting_in R T) (member i T.listed) e

@@ -2,18 +2,18 @@
 use Rattle.std.proofs.Common.{◌≡◌, ℕ, ◌<◌, Bool, true, false, cond, not, ◌&&◌, ◌||◌, ltb, List, Some, None, Option, sym, refl, ap, ◌∙◌, arith}
 use Rattle.std.proofs.lemmas.Bool.{and_parts, ltb-true}
 use Rattle.quorum.specs.Rules.{Rule, Lawful}
-use Rattle.quorum.specs.Truth.{false-unless}
+use Rattle.quorum.specs.Truth.{false_unless}
 use Rattle.vote.specs.Search.{given}
-use Rattle.vote.proofs.Options.{given-found, holds-none}
+use Rattle.vote.proofs.Options.{given_found, holds_none}
 use Rattle.agreement.specs.Runs.{Event, start_of, history, posted}
-use Rattle.board.specs.Shown.{setting-of, method-of}
+use Rattle.board.specs.Shown.{setting_of, method_of}
 use Rattle.group.specs.declared.fault.GroupFault.{GroupFault}
 use Rattle.group.specs.declared.fault.GroupFault.TheVariants.{Outside, Listed, Begun, Idle, Unlisted, Unposted}
 use Rattle.group.specs.declared.terms.Terms.{Terms}
-use Rattle.group.specs.Calls.{Call, run_of, start-fault, carry-fault, forge-fault}
+use Rattle.group.specs.Calls.{Call, run_of, start_fault, carry_fault, forge_fault}
 use Rattle.group.specs.Promises.{Opened}
-use Rattle.group.specs.Terms.{method-in, start-at, fit_at, lies}
-use Rattle.group.proofs.Legal.{word-ranges, run-legal, run-keeps}
+use Rattle.group.specs.Terms.{method_in, start_at, fit_at, lies}
+use Rattle.group.proofs.Legal.{word_ranges, run_legal, run_keeps}
 
 -- the first of the tests that fails, where the later tests need only be right once the earlier ones pass
 three : (a a' b b' c c' : Bool) (x y z : GroupFault) → a ≡ a' → (a' ≡ true → b ≡ b') → (a' ≡ true → b' ≡ true → c ≡ c')
@@ -30,37 +30,37 @@ four a true b true c false d d' x y z w p q r s = rw (p, q refl, r refl refl)
 four a true b true c true d d' x y z w p q r s = rw (p, q refl, r refl refl, s refl refl refl)
 
 -- none of the four fails
-four-none : (a b c d : Bool) (x y z w : GroupFault) → cond a (cond b (cond c (cond d None (Some w)) (Some z)) (Some y)) (Some x) ≡ None → (a ≡ true) × (c ≡ true) × (d ≡ true)
-four-none false b c d x y z w e = holds-none (sym e)
-four-none true false c d x y z w e = holds-none (sym e)
-four-none true true false d x y z w e = holds-none (sym e)
-four-none true true true false x y z w e = holds-none (sym e)
-four-none true true true true x y z w e = (refl, refl, refl)
+four_none : (a b c d : Bool) (x y z w : GroupFault) → cond a (cond b (cond c (cond d None (Some w)) (Some z)) (Some y)) (Some x) ≡ None → (a ≡ true) × (c ≡ true) × (d ≡ true)
+four_none false b c d x y z w e = holds_none (sym e)
+four_none true false c d x y z w e = holds_none (sym e)
+four_none true true false d x y z w e = holds_none (sym e)
+four_none true true true false x y z w e = holds_none (sym e)
+four_none true true true true x y z w e = (refl, refl, refl)
 
 and_both : (a b a' b' : Bool) → a ≡ a' → b ≡ b' → (a && b) ≡ (a' && b')
 and_both a b a' b' p q = rw (p, q)
 
 module _ (R : Rule) (T : Terms) (r : List Event) where
-  pub start-stands : (i : ℕ) (inside liar begun : Bool) → inside ≡ ltb i R.crew → liar ≡ lies R T i → (i < R.crew → begun ≡ given (start_of r i))
-      → cond inside (cond (not liar) (cond (not begun) None (Some Begun)) (Some Listed)) (Some Outside) ≡ start-fault R T r i
-  unfolding start-fault
-  start-stands i inside liar begun p q s = three _ _ _ _ _ _ _ _ _ p (λ a. ap not q) (λ a b. ap not (s (ltb-true _ _ a)))
+  pub start_stands : (i : ℕ) (inside liar begun : Bool) → inside ≡ ltb i R.crew → liar ≡ lies R T i → (i < R.crew → begun ≡ given (start_of r i))
+      → cond inside (cond (not liar) (cond (not begun) None (Some Begun)) (Some Listed)) (Some Outside) ≡ start_fault R T r i
+  unfolding start_fault
+  start_stands i inside liar begun p q s = three _ _ _ _ _ _ _ _ _ p (λ a. ap not q) (λ a b. ap not (s (ltb-true _ _ a)))
 
-  pub carry-stands : (to from c v : ℕ) (inside listed begun sent : Bool) → inside ≡ (ltb to R.crew && ltb from R.crew) → listed ≡ (lies R T to || lies R T from)
+  pub carry_stands : (to from c v : ℕ) (inside listed begun sent : Bool) → inside ≡ (ltb to R.crew && ltb from R.crew) → listed ≡ (lies R T to || lies R T from)
       → (to < R.crew → from < R.crew → begun ≡ (given (start_of r to) && given (start_of r from)))
-      → (from < R.crew → given (start_of r from) ≡ true → sent ≡ posted (method-in R T) r from c v)
-      → cond inside (cond (not listed) (cond begun (cond sent None (Some Unposted)) (Some Idle)) (Some Listed)) (Some Outside) ≡ carry-fault R T r to from c v
-  unfolding carry-fault
-  carry-stands to from c v inside listed begun sent p q s t =
+      → (from < R.crew → given (start_of r from) ≡ true → sent ≡ posted (method_in R T) r from c v)
+      → cond inside (cond (not listed) (cond begun (cond sent None (Some Unposted)) (Some Idle)) (Some Listed)) (Some Outside) ≡ carry_fault R T r to from c v
+  unfolding carry_fault
+  carry_stands to from c v inside listed begun sent p q s t =
       four _ _ _ _ _ _ _ _ _ _ _ _ p (λ a. ap not q)
       (λ a b. let k = and_parts (ltb to R.crew) _ a in s (ltb-true _ _ k.0) (ltb-true _ _ k.1))
       (λ a b e. let k = and_parts (ltb to R.crew) _ a in t (ltb-true _ _ k.1) (and_parts (given (start_of r to)) _ e).1)
 
-  pub forge-stands : (to from : ℕ) (inside liar begun forger : Bool) → inside ≡ (ltb to R.crew && ltb from R.crew) → liar ≡ lies R T to
+  pub forge_stands : (to from : ℕ) (inside liar begun forger : Bool) → inside ≡ (ltb to R.crew && ltb from R.crew) → liar ≡ lies R T to
       → (to < R.crew → begun ≡ given (start_of r to)) → forger ≡ lies R T from
-      → cond inside (cond (not liar) (cond begun (cond forger None (Some Unlisted)) (Some Idle)) (Some Listed)) (Some Outside) ≡ forge-fault R T r to from
-  unfolding forge-fault
-  forge-stands to from inside liar begun forger p q s t =
+      → cond inside (cond (not liar) (cond begun (cond forger None (Some Unlisted)) (Some Idle)) (Some Listed)) (Some Outside) ≡ forge_fault R T r to from
+  unfolding forge_fault
+  forge_stands to from inside liar begun forger p q s t =
       four _ _ _ _ _ _ _ _ _ _ _ _ p (λ a. ap not q)
       (λ a b. s (ltb-true _ _ (and_parts (ltb to R.crew) _ a).0)) (λ a b e. t)
 
@@ -70,33 +70,33 @@ module _ {R : Rule} {T : Terms} (law : Lawful R) (accepted : Opened R T) (xs : L
   run = run_of R T xs
 
   -- of a board that has started, by its settings and its record
-  pub posted-is : (i c v : ℕ) (b : Bool) → given (start_of run i) ≡ true
-      → b ≡ (method-of T.method (setting-of R (fit_at T i))).posts (start-at T i) (history run i) c v → b ≡ posted (method-in R T) run i c v
+  pub posted_is : (i c v : ℕ) (b : Bool) → given (start_of run i) ≡ true
+      → b ≡ (method_of T.method (setting_of R (fit_at T i))).posts (start_at T i) (history run i) c v → b ≡ posted (method_in R T) run i c v
   unfolding posted
-  posted-is i c v b on is =
-      let s = given-found _ on in
-      let k : start_of run i ≡ Some (start-at T i) = s.1 ∙ ap {B = Option ℕ} Some (sym (run-keeps R T xs i s.0 s.1)) in
+  posted_is i c v b on is =
+      let s = given_found _ on in
+      let k : start_of run i ≡ Some (start_at T i) = s.1 ∙ ap {B = Option ℕ} Some (sym (run_keeps R T xs i s.0 s.1)) in
       rw k is
 
   -- no other kinds and values are posted
-  pub kind-unposted : (i c v : ℕ) → i < R.crew → 5 < c → false ≡ posted (method-in R T) run i c v
-  kind-unposted i c v l h =
-      sym (false-unless _ (λ p. let w = word-ranges law accepted run (run-legal law accepted xs) i c v l p in omega (arith, h, w.kind-high)))
+  pub kind_unposted : (i c v : ℕ) → i < R.crew → 5 < c → false ≡ posted (method_in R T) run i c v
+  kind_unposted i c v l h =
+      sym (false_unless _ (λ p. let w = word_ranges law accepted run (run_legal law accepted xs) i c v l p in omega (arith, h, w.kind_high)))
 
-  pub value-unposted : (i c v : ℕ) → i < R.crew → 8 < v → false ≡ posted (method-in R T) run i c v
-  value-unposted i c v l h =
-      sym (false-unless _ (λ p. let w = word-ranges law accepted run (run-legal law accepted xs) i c v l p in omega (arith, h, w.value-high)))
+  pub value_unposted : (i c v : ℕ) → i < R.crew → 8 < v → false ≡ posted (method_in R T) run i c v
+  value_unposted i c v l h =
+      sym (false_unless _ (λ p. let w = word_ranges law accepted run (run_legal law accepted xs) i c v l p in omega (arith, h, w.value_high)))
 
 -- ---- tests one behind the other
-pub chain-three : (a b c : Bool) (x y z : GroupFault) (r s t : Option GroupFault) → t ≡ cond c None (Some z) → s ≡ cond b t (Some y) → r ≡ cond a s (Some x)
+pub chain_three : (a b c : Bool) (x y z : GroupFault) (r s t : Option GroupFault) → t ≡ cond c None (Some z) → s ≡ cond b t (Some y) → r ≡ cond a s (Some x)
     → r ≡ cond a (cond b (cond c None (Some z)) (Some y)) (Some x)
-chain-three a b c x y z r s t p q u = u ∙ ap (λ o. cond a o (Some x)) (q ∙ ap (λ o. cond b o (Some y)) p)
+chain_three a b c x y z r s t p q u = u ∙ ap (λ o. cond a o (Some x)) (q ∙ ap (λ o. cond b o (Some y)) p)
 
-pub chain-four : (a b c d : Bool) (x y z w : GroupFault) (r s t v : Option GroupFault) → v ≡ cond d None (Some w) → t ≡ cond c v (Some z) → s ≡ cond b t (Some y) → r ≡ cond a s (Some x)
+pub chain_four : (a b c d : Bool) (x y z w : GroupFault) (r s t v : Option GroupFault) → v ≡ cond d None (Some w) → t ≡ cond c v (Some z) → s ≡ cond b t (Some y) → r ≡ cond a s (Some x)
     → r ≡ cond a (cond b (cond c (cond d None (Some w)) (Some z)) (Some y)) (Some x)
-chain-four a b c d x y z w r s t v o p q u = u ∙ ap (λ k. cond a k (Some x)) (q ∙ ap (λ k. cond b k (Some y)) (p ∙ ap (λ k. cond c k (Some z)) o))
+chain_four a b c d x y z w r s t v o p q u = u ∙ ap (λ k. cond a k (Some x)) (q ∙ ap (λ k. cond b k (Some y)) (p ∙ ap (λ k. cond c k (Some z)) o))
 
 -- where no fault is found, the first, the third and the last test have passed
-pub chain-none : (a b c d : Bool) (x y z w : GroupFault) (r s t v : Option GroupFault) → v ≡ cond d None (Some w) → t ≡ cond c v (Some z) → s ≡ cond b t (Some y) → r ≡ cond a s (Some x)
+pub chain_none : (a b c d : Bool) (x y z w : GroupFault) (r s t v : Option GroupFault) → v ≡ cond d None (Some w) → t ≡ cond c v (Some z) → s ≡ cond b t (Some y) → r ≡ cond a s (Some x)
     → r ≡ None → (a ≡ true) × (c ≡ true) × (d ≡ true)
-chain-none a b c d x y z w r s t v o p q u none = four-none a b c d x y z w (sym (chain-four a b c d x y z w r s t v o p q u) ∙ none)
+chain_none a b c d x y z w r s t v o p q u none = four_none a b c d x y z w (sym (chain_four a b c d x y z w r s t v o p q u) ∙ none)

@@ -6,14 +6,14 @@ use Rattle.group.specs.declared.fault.GroupFault.{GroupFault}
 use Rattle.group.specs.declared.fault.GroupFault.TheVariants.{Opening, NoGroup, Outside, Listed, Begun, Idle, Unlisted, Unposted, Family, Board}
 
 -- every case; the layer follows from the number
-abbrev pub refusal-of : GroupFault → Refusal
-refusal-of (Opening e) = board.refusal-of e
-refusal-of NoGroup = told 21
-refusal-of Outside = told 22
-refusal-of Listed = told 23
-refusal-of Begun = told 24
-refusal-of Idle = told 25
-refusal-of Unlisted = told 26
-refusal-of Unposted = told 27
-refusal-of Family = told 28
-refusal-of (Board b e) = passed_on b (board.refusal-of e)
+abbrev pub refusal_of : GroupFault → Refusal
+refusal_of (Opening e) = board.refusal_of e
+refusal_of NoGroup = told 21
+refusal_of Outside = told 22
+refusal_of Listed = told 23
+refusal_of Begun = told 24
+refusal_of Idle = told 25
+refusal_of Unlisted = told 26
+refusal_of Unposted = told 27
+refusal_of Family = told 28
+refusal_of (Board b e) = passed_on b (board.refusal_of e)

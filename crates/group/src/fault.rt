@@ -1,6 +1,6 @@
 // Why a group is not opened, or a call on it is refused.
 ghost use Rattle.std.specs.Prelude.{◌≡◌};
-ghost use Rattle.group.specs.Faults.{refusal-of};
+ghost use Rattle.group.specs.Faults.{refusal_of};
 ghost use Rattle.group.specs.declared.fault.GroupFault.TheVariants.{Board};
 
 use board::BoardFault;
@@ -33,7 +33,7 @@ pub enum GroupFault {
 impl GroupFault {
     // What is told of the fault.
     pub fn refusal(&self) -> Refusal
-        ensures { result ≡ refusal-of self.now }
+        ensures { result ≡ refusal_of self.now }
     {
         let number = match *self {
             GroupFault::Opening(fault) => return fault.refusal(),

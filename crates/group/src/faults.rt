@@ -2,11 +2,11 @@
 ghost use Rattle.std.specs.Prelude.{◌≡◌, ◌<◌, ◌≤◌, true, List, if◌then◌else◌, Some as Is, None as Nothing};
 ghost use Rattle.quorum.specs.Rules.{Rule, Lawful};
 ghost use Rattle.vote.specs.Search.{given};
-ghost use Rattle.agreement.specs.Runs.{Event, start_of, posted as postedIn};
-ghost use Rattle.group.specs.Calls.{Call, starting, carrying, forging, records-of, run_of, forge-fault};
+ghost use Rattle.agreement.specs.Runs.{Event, start_of, posted as posted_in};
+ghost use Rattle.group.specs.Calls.{Call, starting, carrying, forging, records_of, run_of, forge_fault};
 ghost use Rattle.group.specs.Promises.{Reached};
-ghost use Rattle.group.specs.Steps.{Stands-against, Stands-against-forging};
-ghost use Rattle.group.specs.Terms.{method-in};
+ghost use Rattle.group.specs.Steps.{StandsAgainst, StandsAgainstForging};
+ghost use Rattle.group.specs.Terms.{method_in};
 ghost use Rattle.group.specs.declared.terms.Terms.{Terms as AnyTerms};
 
 use crate::fault::GroupFault;
@@ -32,7 +32,7 @@ pub(crate) fn needs(
 impl Records {
     // Whether the board has started.
     fn begun(&self, board: u16) -> bool
-        ensures value { (R : Rule) (T : AnyTerms) (h : List Event) → self.now ≡ records-of R T h → board < 16 → result ≡ given (start_of h board) }
+        ensures value { (R : Rule) (T : AnyTerms) (h : List Event) → self.now ≡ records_of R T h → board < 16 → result ≡ given (start_of h board) }
         ensures within { result ≡ true → board < 16 }
     {
         if board >= 16 {
@@ -43,7 +43,7 @@ impl Records {
 
     // Whether a board that has started has posted the word, whatever these numbers are.
     fn posted(&self, terms: &Terms, board: u16, kind: u16, value: u16) -> bool
-        ensures value { (R : Rule) (xs : List Call) → Lawful R → Reached R terms.now self.now xs → board < R.crew → given (start_of (run_of R terms.now xs) board) ≡ true → result ≡ postedIn (method-in R terms.now) (run_of R terms.now xs) board kind value }
+        ensures value { (R : Rule) (xs : List Call) → Lawful R → Reached R terms.now self.now xs → board < R.crew → given (start_of (run_of R terms.now xs) board) ≡ true → result ≡ posted_in (method_in R terms.now) (run_of R terms.now xs) board kind value }
         ensures within { result ≡ true → (kind ≤ 5) × (value ≤ 8) }
     {
         if board >= 16 {
@@ -65,7 +65,7 @@ impl Records {
         terms: &Terms,
         board: u16,
     ) -> Option<GroupFault>
-        ensures value { Stands-against (R.meaning rule.now) terms.now (starting board) self.now result }
+        ensures value { StandsAgainst (R.meaning rule.now) terms.now (starting board) self.now result }
     {
         let inside = board < rule.crew() as u16;
         let found = needs(!self.begun(board), GroupFault::Begun, None);
@@ -82,7 +82,7 @@ impl Records {
         kind: u16,
         value: u16,
     ) -> Option<GroupFault>
-        ensures value { Stands-against (R.meaning rule.now) terms.now (carrying to from kind value) self.now result }
+        ensures value { StandsAgainst (R.meaning rule.now) terms.now (carrying to from kind value) self.now result }
         ensures within { result ≡ Nothing → (to < 16) × (from < 16) × (kind ≤ 5) × (value ≤ 8) }
     {
         let crew = rule.crew() as u16;
@@ -103,7 +103,7 @@ impl Records {
         to: u16,
         from: u16,
     ) -> Option<GroupFault>
-        ensures value { Stands-against-forging (R.meaning rule.now) terms.now to from self.now result }
+        ensures value { StandsAgainstForging (R.meaning rule.now) terms.now to from self.now result }
         ensures within { result ≡ Nothing → (to < 16) × (from < 256) }
     {
         let crew = rule.crew() as u16;

@@ -1,7 +1,7 @@
 // A group that is open, and the calls that work on it.
 ghost use Rattle.std.specs.Prelude.{◌≡◌};
 ghost use Rattle.group.specs.Calls.{starting, carrying, forging};
-ghost use Rattle.group.specs.Promises.{Plays, Tells-decided};
+ghost use Rattle.group.specs.Promises.{Plays, TellsDecided};
 
 use crate::fault::GroupFault;
 use crate::records::Records;
@@ -53,7 +53,7 @@ impl<R: FailureRule> Group<R> {
 
     // What a board has decided, if it has.
     pub fn decided(&self, board: u16) -> Option<Decision>
-        ensures { Tells-decided (R.meaning self.now.rule) self.now.terms self.now.records board result }
+        ensures { TellsDecided (R.meaning self.now.rule) self.now.terms self.now.records board result }
     {
         if board >= 16 {
             return None;

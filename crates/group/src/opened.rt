@@ -3,7 +3,7 @@ ghost use Rattle.std.specs.Prelude.{◌≡◌, ◌≤◌, [], if◌then◌else�
 ghost use Rattle.quorum.specs.Rules.{Rule};
 ghost use Rattle.heard.specs.Shown.{table};
 ghost use Rattle.group.specs.Calls.{after};
-ghost use Rattle.group.specs.Opening.{opening-fault, Settles, kept-start, Good-opening};
+ghost use Rattle.group.specs.Opening.{opening_fault, Settles, kept_start, GoodOpening};
 ghost use Rattle.group.specs.Promises.{Reached};
 
 use crate::fault::GroupFault;
@@ -30,7 +30,7 @@ fn own_start(inside: bool, start: u16) -> u8
 }
 
 fn own_starts(starts: &[u16; 16], crew: u8) -> [u8; 16]
-    ensures { result ≡ table 16 (kept-start crew starts.now) }
+    ensures { result ≡ table 16 (kept_start crew starts.now) }
 {
     let mut own = [1; 16];
     for i in 0..16 {
@@ -41,7 +41,7 @@ fn own_starts(starts: &[u16; 16], crew: u8) -> [u8; 16]
 
 // What is settled, in the sizes that a group keeps it.
 fn settled(opening: &Opening, crew: u8) -> Terms
-    requires { Good-opening crew opening.now }
+    requires { GoodOpening crew opening.now }
     ensures { (R : Rule) → R.crew ≡ crew → Settles R opening.now result }
 {
     let depth = if opening.depth == 1 {
@@ -83,7 +83,7 @@ impl Terms {
 impl<R: FailureRule + Drop> Group<R> {
     // Opens a group, or tells what stands against it.
     pub fn open(rule: R, opening: &Opening) -> Result<Group<R>, GroupFault>
-        ensures { MatchResult result (λ g. (opening-fault (R.meaning rule) opening.now ≡ None) × (g.rule ≡ rule) × Settles (R.meaning rule) opening.now g.terms × Reached (R.meaning rule) g.terms g.records []) (λ e. opening-fault (R.meaning rule) opening.now ≡ Some e) }
+        ensures { MatchResult result (λ g. (opening_fault (R.meaning rule) opening.now ≡ None) × (g.rule ≡ rule) × Settles (R.meaning rule) opening.now g.terms × Reached (R.meaning rule) g.terms g.records []) (λ e. opening_fault (R.meaning rule) opening.now ≡ Some e) }
     {
         if let Some(fault) = opening_fault(&rule, opening) {
             return Err(fault);

@@ -1,9 +1,9 @@
 // What an opening asks for, and what stands against it.
 ghost use Rattle.std.specs.Prelude.{◌≡◌, length, if◌then◌else◌, Some as Is};
 ghost use Rattle.wire.specs.Fields.{is_within};
-ghost use Rattle.board.specs.Fitting.{echo-under-two};
-ghost use Rattle.group.specs.Opening.{opening-fault};
-ghost use Rattle.group.specs.Sound.{all-characters};
+ghost use Rattle.board.specs.Fitting.{echo_under_two};
+ghost use Rattle.group.specs.Opening.{opening_fault};
+ghost use Rattle.group.specs.Sound.{all_characters};
 
 use crate::fault::GroupFault;
 use crate::faults::needs;
@@ -32,7 +32,7 @@ fn within(low: u32, high: u32, number: u32) -> bool
 
 // Whether each is a character from 1 to the last.
 pub(crate) fn all_characters(last: u32, starts: &[u16]) -> bool
-    ensures { result ≡ all-characters last starts.now }
+    ensures { result ≡ all_characters last starts.now }
 {
     for start in starts {
         if !within(1, last, *start as u32) {
@@ -44,7 +44,7 @@ pub(crate) fn all_characters(last: u32, starts: &[u16]) -> bool
 
 // The echo method needs a cover of 3.
 fn echo_under_two(method: Method, cover: u32) -> bool
-    ensures { result ≡ echo-under-two method cover }
+    ensures { result ≡ echo_under_two method cover }
 {
     match method {
         Method::Plain => false,
@@ -64,7 +64,7 @@ fn at_most(crew: u8) -> usize
 
 // What stands against opening a group under the rule, by rising number.
 pub fn opening_fault<R: FailureRule>(rule: &R, opening: &Opening) -> Option<GroupFault>
-    ensures value { result ≡ opening-fault (R.meaning rule.now) opening.now }
+    ensures value { result ≡ opening_fault (R.meaning rule.now) opening.now }
     ensures sixteen { length opening.now.starts ≡ 16 }
 {
     let crew = rule.crew();

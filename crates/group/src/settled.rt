@@ -2,7 +2,7 @@
 ghost use Rattle.std.specs.Prelude.{◌≡◌, ◌<◌};
 ghost use Rattle.quorum.specs.Rules.{Rule};
 ghost use Rattle.quorum.specs.Sets.{member};
-ghost use Rattle.group.specs.Terms.{fit_at, lies as liesIn};
+ghost use Rattle.group.specs.Terms.{fit_at, lies as lies_in};
 
 use crate::terms::Terms;
 use board::{Fit, Fitting};
@@ -38,7 +38,7 @@ impl Terms {
 
     // Whether the board is listed, and the method lets listed boards say anything.
     pub(crate) fn lies(&self, board: u16) -> bool
-        ensures { (R : Rule) → result ≡ liesIn R self.now board }
+        ensures { (R : Rule) → result ≡ lies_in R self.now board }
     {
         match self.method {
             Method::Plain => false,

@@ -1,7 +1,7 @@
 // A board of the group takes a frame.
 ghost use Rattle.std.specs.Prelude.{◌≡◌, ◌<◌};
-ghost use Rattle.group.specs.Calls.{done-of};
-ghost use Rattle.group.specs.Steps.{Board-takes, Takes};
+ghost use Rattle.group.specs.Calls.{done_of};
+ghost use Rattle.group.specs.Steps.{BoardTakes, Takes};
 
 use crate::records::{Board, Records};
 use crate::terms::Terms;
@@ -10,7 +10,7 @@ use board::{BoardFault, Fitting, Taken};
 use quorum::FailureRule;
 
 fn done(taken: Taken) -> Done
-    ensures { result ≡ done-of taken }
+    ensures { result ≡ done_of taken }
 {
     match taken {
         Taken::Counted => Done::Counted,
@@ -27,7 +27,7 @@ impl Board {
         port: u8,
         bytes: &[u8],
     ) -> Result<Turn, (u8, BoardFault)>
-        ensures { Board-takes (R.meaning rule.now) fitting.now.fit port bytes.now self.old self.new result }
+        ensures { BoardTakes (R.meaning rule.now) fitting.now.fit port bytes.now self.old self.new result }
     {
         let board = fitting.fit.board;
         match fitting.take(rule, &mut self.state, port, bytes) {

@@ -1,6 +1,6 @@
 // What an accepted opening settles for a group.
 ghost use Rattle.std.specs.Prelude.{◌≡◌, true};
-ghost use Rattle.group.specs.Sound.{sound-terms};
+ghost use Rattle.group.specs.Sound.{sound_terms};
 
 use vote::{Depth, Method};
 
@@ -15,5 +15,5 @@ pub struct Terms {
     pub(crate) listed: u16,
     // the starting character of each board; beyond the crew it means nothing
     pub(crate) starts: [u8; 16],
-    ghost sound: { sound-terms characters group change starts ≡ true },
+    ghost sound: { sound_terms characters group change starts ≡ true },
 }

@@ -1,7 +1,7 @@
 // What an accepted call answers.
 ghost use Rattle.std.specs.Prelude.{◌≡◌, ◌*◌, ◌≤◌, true, length, is_ok, IfOk};
 ghost use Rattle.wire.specs.Slips.{words_of};
-ghost use Rattle.group.specs.Calls.{turn-of};
+ghost use Rattle.group.specs.Calls.{turn_of};
 
 use crate::limits::SCRATCH;
 use wire::{FrameFault, SLIP_MAX, Slip};
@@ -27,7 +27,7 @@ pub struct Turn {
 
 // Writes the slip into the scratch. A slip of more words than one counted word can post would not fit; then it is written elsewhere, and refused.
 pub(crate) fn written(done: Done, mut slip: Slip) -> Result<Turn, FrameFault>
-    ensures value { IfOk result (λ t. t ≡ turn-of done slip.posted) }
+    ensures value { IfOk result (λ t. t ≡ turn_of done slip.posted) }
     ensures fits { length (words_of slip.posted) * 19 ≤ 114 → is_ok result ≡ true }
 {
     let words = slip.count();

@@ -15,23 +15,23 @@ abbrev pub others : Tally → ℕ → ℕ
 others t u = t.all - bit_and t.all (slice_index t.values u)
 
 -- the set at v with board i
-abbrev pub with-board : List ℕ → ℕ → ℕ → List ℕ
-with-board ss v i = slice_set ss v (bit_or (slice_index ss v) (2 ^ i))
+abbrev pub with_board : List ℕ → ℕ → ℕ → List ℕ
+with_board ss v i = slice_set ss v (bit_or (slice_index ss v) (2 ^ i))
 
 -- the first vote of board i bears v, unless there was one before
 abbrev pub added : Tally → ℕ → ℕ → Tally
-added t v i = cond (member i t.all) t record { values = with-board t.values v i; all = bit_or t.all (2 ^ i) }
+added t v i = cond (member i t.all) t record { values = with_board t.values v i; all = bit_or t.all (2 ^ i) }
 
 abbrev pub noted : Heard → Vote → Heard
 noted o w = record {
-  echoes = cond (w.kind == 1) (with-board o.echoes w.value w.sender) o.echoes;
+  echoes = cond (w.kind == 1) (with_board o.echoes w.value w.sender) o.echoes;
   first = slice_set o.first (w.kind - 1) (added (slice_index_or o.first (w.kind - 1) beyond) w.value w.sender);
 }
 
 -- a value from `from` on with ample senders
-abbrev pub ample-from : Rule → List ℕ → ℕ → ℕ → Bool
-ample-from R ss from v = nat_le from v && ample R (slice_index ss v)
+abbrev pub ample_from : Rule → List ℕ → ℕ → ℕ → Bool
+ample_from R ss from v = nat_le from v && ample R (slice_index ss v)
 
 -- a character with a sender in `fifth` and strong senders in `fourth`
-abbrev pub backed-in : Rule → List ℕ → List ℕ → ℕ → Bool
-backed-in R fourth fifth w = not (w == 0) && not (slice_index fifth w == 0) && strong R (slice_index fourth w)
+abbrev pub backed_in : Rule → List ℕ → List ℕ → ℕ → Bool
+backed_in R fourth fifth w = not (w == 0) && not (slice_index fifth w == 0) && strong R (slice_index fourth w)

@@ -9,5 +9,5 @@ unfoldable pub repeats : List Vote → Vote → Bool
 repeats h w = cond (w.kind == 1) (counted h 1 w.value w.sender) (given (first h w.kind w.sender))
 
 -- the history once w has come
-unfoldable pub with-vote : List Vote → Vote → List Vote
-with-vote h w = cond (repeats h w) h (w ∷ h)
+unfoldable pub with_vote : List Vote → Vote → List Vote
+with_vote h w = cond (repeats h w) h (w ∷ h)

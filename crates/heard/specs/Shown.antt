@@ -1,7 +1,7 @@
 -- How sets of senders show what a board has counted. Assumes nothing.
 use Rattle.std.specs.Prelude.{◌≡◌, ℕ, suc, List, map, Option}
 use Rattle.std.specs.List.{range_with_len}
-use Rattle.quorum.specs.Sets.{setOf}
+use Rattle.quorum.specs.Sets.{set_of}
 use Rattle.quorum.specs.Rules.{Rule}
 use Rattle.vote.specs.declared.Depth.{Depth}
 use Rattle.vote.specs.History.{Seen}
@@ -18,13 +18,13 @@ abbrev pub table : {A : Type 0} → ℕ → (ℕ → A) → List A
 table n f = map f (range_with_len 0 n)
 
 -- of a crew of n, the senders whose first vote is f: by the value that it bears, and all
-unfoldable pub tally-of : ℕ → (ℕ → Option ℕ) → Tally
-tally-of n f = record { values = table 9 (λ v. setOf n (λ i. is v (f i))); all = setOf n (λ i. given (f i)) }
+unfoldable pub tally_of : ℕ → (ℕ → Option ℕ) → Tally
+tally_of n f = record { values = table 9 (λ v. set_of n (λ i. is v (f i))); all = set_of n (λ i. given (f i)) }
 
 -- of a crew of n, the senders of each echo, and those of the first votes of each kind
-unfoldable pub heard-of : ℕ → Seen → Heard
-heard-of n x = record { echoes = table 9 (λ v. setOf n (x.echo v)); first = table 5 (λ c. tally-of n (x.first (suc c))) }
+unfoldable pub heard_of : ℕ → Seen → Heard
+heard_of n x = record { echoes = table 9 (λ v. set_of n (x.echo v)); first = table 5 (λ c. tally_of n (x.first (suc c))) }
 
 -- r is what the test t makes, under the rule R with k characters, of all that the sets of senders o can show
 abbrev pub Makes : {A : Type 0} → Rule → ℕ → (Setting → Seen → A) → Heard → A → Type 0
-Makes R k t o r = (d : Depth) (x : Seen) → o ≡ heard-of R.crew x → r ≡ t (setting R k d) x
+Makes R k t o r = (d : Depth) (x : Seen) → o ≡ heard_of R.crew x → r ≡ t (setting R k d) x

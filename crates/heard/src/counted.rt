@@ -1,9 +1,9 @@
 // What a board has counted: the senders of each echo, and of the first votes of each kind.
 ghost use Rattle.std.specs.Prelude.{◌≡◌, ℕ, ◌<◌, List, [], ◌∷◌};
-ghost use Rattle.heard.specs.Limits.{In-range};
+ghost use Rattle.heard.specs.Limits.{InRange};
 ghost use Rattle.heard.specs.Masks.{noted};
-ghost use Rattle.heard.specs.Repeats.{repeats as isRepeated};
-ghost use Rattle.heard.specs.Shown.{heard-of};
+ghost use Rattle.heard.specs.Repeats.{repeats as is_repeated};
+ghost use Rattle.heard.specs.Shown.{heard_of};
 ghost use Rattle.vote.specs.History.{seen};
 ghost use Rattle.vote.specs.declared.Vote.{Vote};
 
@@ -24,7 +24,7 @@ pub struct Heard {
 impl Heard {
     // Nothing is counted.
     pub fn start() -> Heard
-        ensures { (n : ℕ) → result ≡ heard-of n (seen []) }
+        ensures { (n : ℕ) → result ≡ heard_of n (seen []) }
     {
         let none = Tally {
             values: [0; VALUES],
@@ -38,8 +38,8 @@ impl Heard {
 
     // Whether the vote is counted already.
     pub fn repeats(&self, vote: Vote) -> bool
-        requires { In-range vote }
-        ensures { (n : ℕ) (h : List Vote) → vote.sender < n → self.now ≡ heard-of n (seen h) → result ≡ isRepeated h vote }
+        requires { InRange vote }
+        ensures { (n : ℕ) (h : List Vote) → vote.sender < n → self.now ≡ heard_of n (seen h) → result ≡ is_repeated h vote }
     {
         if vote.kind == ECHO {
             has(self.echoes[vote.value as usize], vote.sender)
@@ -49,7 +49,7 @@ impl Heard {
     }
 
     fn put(&mut self, vote: Vote)
-        requires { In-range vote }
+        requires { InRange vote }
         ensures { self.new ≡ noted self.old vote }
     {
         self.first[vote.kind as usize - 1].add(vote.value, vote.sender);
@@ -60,8 +60,8 @@ impl Heard {
 
     // Counts the vote.
     pub fn note(&mut self, vote: Vote)
-        requires { In-range vote }
-        ensures { (n : ℕ) (h : List Vote) → vote.sender < n → self.old ≡ heard-of n (seen h) → self.new ≡ heard-of n (seen (vote ∷ h)) }
+        requires { InRange vote }
+        ensures { (n : ℕ) (h : List Vote) → vote.sender < n → self.old ≡ heard_of n (seen h) → self.new ≡ heard_of n (seen (vote ∷ h)) }
     {
         self.put(vote);
     }

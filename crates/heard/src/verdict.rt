@@ -1,8 +1,8 @@
 // Test 7: what is to be decided for what is counted.
 ghost use Rattle.std.specs.Prelude.{◌≡◌, ◌≤◌};
-ghost use Rattle.heard.specs.Limits.{max-characters};
+ghost use Rattle.heard.specs.Limits.{max_characters};
 ghost use Rattle.heard.specs.Shown.{Makes};
-ghost use Rattle.agreement.specs.Echo.{decides, verdict as verdictOf};
+ghost use Rattle.agreement.specs.Echo.{decides, verdict as verdict_of};
 ghost use Rattle.vote.specs.declared.Depth.TheVariants.{Two};
 
 use crate::counted::Heard;
@@ -26,8 +26,8 @@ pub fn decision(grade: u8, outcome: Option<u8>) -> Option<Decision>
 
 impl Heard {
     pub fn verdict<R: FailureRule>(&self, rule: &R, characters: u8) -> Option<Decision>
-        requires { characters ≤ max-characters }
-        ensures { Makes (R.meaning rule.now) characters (λ S. verdictOf S Two) self.now result }
+        requires { characters ≤ max_characters }
+        ensures { Makes (R.meaning rule.now) characters (λ S. verdict_of S Two) self.now result }
     {
         let fifth = self.first[4];
         let full = decision(2, lowest_ample(rule, fifth.values, characters, 1));

@@ -1,9 +1,9 @@
 -- The marked cases, each by computing. Assumes nothing.
 use Rattle.std.proofs.Common.{refl}
-use Rattle.lines.specs.Lines.{call-in}
-use Rattle.lines.specs.Parts.{numbers-in}
-use Rattle.lines.specs.Marked.{Marked-cases-hold}
+use Rattle.lines.specs.Lines.{call_in}
+use Rattle.lines.specs.Parts.{numbers_in}
+use Rattle.lines.specs.Marked.{MarkedCasesHold}
 
-pub marked-cases-hold : Marked-cases-hold
-unfolding Marked-cases-hold call-in numbers-in
-marked-cases-hold = (refl, (refl, (refl, (refl, (refl, (refl, (refl, (refl, (refl, (refl, (refl, (refl, (refl, (refl, (refl, (refl, (refl, (refl, tt))))))))))))))))))
+pub marked_cases_hold : MarkedCasesHold
+unfolding MarkedCasesHold call_in numbers_in
+marked_cases_hold = (refl, (refl, (refl, (refl, (refl, (refl, (refl, (refl, (refl, (refl, (refl, (refl, (refl, (refl, (refl, (refl, (refl, (refl, tt))))))))))))))))))

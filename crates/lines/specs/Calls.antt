@@ -5,7 +5,7 @@ use Rattle.vote.specs.declared.Method.{Method}
 -- which boards may fail together: at most so many, or each part of a listed set
 pub data Failing : Type 0 where
   by_count : ℕ → Failing
-  by-sets : List ℕ → Failing
+  by_sets : List ℕ → Failing
 
 -- characters says up to which number characters go, bad is the set of boards listed bad, starts has the character that each board starts from
 pub record Opening : Type 0 where
@@ -21,6 +21,6 @@ pub record Opening : Type 0 where
 pub data Call : Type 0 where
   unreadable : Call
   opens : Opening → Call
-  starts-board : ℕ → Call
+  starts_board : ℕ → Call
   carries : ℕ → ℕ → ℕ → ℕ → Call
   forges : ℕ → ℕ → List ℕ → Call

@@ -8,57 +8,57 @@ use Rattle.lines.specs.declared.plan.By.{By}
 use Rattle.lines.specs.declared.plan.By.TheVariants.{Count, Sets}
 use Rattle.lines.specs.declared.plan.Plan.{Plan}
 use Rattle.lines.specs.Items.{items}
-use Rattle.lines.specs.Calls.{Failing, by_count, by-sets, Opening, Call, unreadable, opens, starts-board, carries, forges}
-use Rattle.lines.specs.Lines.{opening-with}
+use Rattle.lines.specs.Calls.{Failing, by_count, by_sets, Opening, Call, unreadable, opens, starts_board, carries, forges}
+use Rattle.lines.specs.Lines.{opening_with}
 
 -- how many listed sets lead the numbers of a plan
-abbrev pub sets-many : By → ℕ
-sets-many (Count f) = 0
-sets-many (Sets m) = m
+abbrev pub sets_many : By → ℕ
+sets_many (Count f) = 0
+sets_many (Sets m) = m
 
 abbrev pub sets_of : Plan → List ℕ
-sets_of p = take (sets-many p.by) (items p.numbers)
+sets_of p = take (sets_many p.by) (items p.numbers)
 
-abbrev pub starts-of : Plan → List ℕ
-starts-of p = drop (sets-many p.by) (items p.numbers)
+abbrev pub starts_of : Plan → List ℕ
+starts_of p = drop (sets_many p.by) (items p.numbers)
 
-abbrev pub failing-by : By → List ℕ → Failing
-failing-by (Count f) vs = by_count f
-failing-by (Sets m) vs = by-sets (take m vs)
+abbrev pub failing_by : By → List ℕ → Failing
+failing_by (Count f) vs = by_count f
+failing_by (Sets m) vs = by_sets (take m vs)
 
 abbrev pub opening_of : Plan → Opening
 opening_of p = record {
   method = p.method;
   depth = p.depth;
   crew = p.crew;
-  failing = failing-by p.by (items p.numbers);
+  failing = failing_by p.by (items p.numbers);
   characters = p.characters;
   bad = p.listed;
-  starts = starts-of p;
+  starts = starts_of p;
 }
 
 -- a plan from the numbers of a line, by what its boards fail by: the five that lead, then its sets, then one starting character for each board
-abbrev pub open-with : Method → List ℕ → By → Call
-open-with m vs by =
-    cond (length vs == 5 + sets-many by + slice_index vs 1) (opens (opening-with m vs (failing-by by (drop 5 vs)) (drop (sets-many by) (drop 5 vs)))) unreadable
+abbrev pub open_with : Method → List ℕ → By → Call
+open_with m vs by =
+    cond (length vs == 5 + sets_many by + slice_index vs 1) (opens (opening_with m vs (failing_by by (drop 5 vs)) (drop (sets_many by) (drop 5 vs)))) unreadable
 
 -- what is made of a method and numbers, if they were read
-abbrev pub head-call : (Method → List ℕ → Call) → Option Head → Call
-head-call call None = unreadable
-head-call call (Some h) = call h.method (items h.numbers)
+abbrev pub head_call : (Method → List ℕ → Call) → Option Head → Call
+head_call call None = unreadable
+head_call call (Some h) = call h.method (items h.numbers)
 
 -- what is forged is told by the place in the line at which it begins
-abbrev pub call-of : List ℕ → Line → Call
-call-of line Unreadable = unreadable
-call-of line (Open p) = opens (opening_of p)
-call-of line (Start i) = starts-board i
-call-of line (Carry to from kind value) = carries to from kind value
-call-of line (Forge to from place) = forges to from (drop place line)
+abbrev pub call_of : List ℕ → Line → Call
+call_of line Unreadable = unreadable
+call_of line (Open p) = opens (opening_of p)
+call_of line (Start i) = starts_board i
+call_of line (Carry to from kind value) = carries to from kind value
+call_of line (Forge to from place) = forges to from (drop place line)
 
 -- a plan has as many sets as it says and one starting character for each board, and a place is within the line
 abbrev pub Within : List ℕ → Line → Type 0
 Within line Unreadable = Unit {0}
-Within line (Open p) = (length (sets_of p) ≡ sets-many p.by) × (length (starts-of p) ≡ p.crew)
+Within line (Open p) = (length (sets_of p) ≡ sets_many p.by) × (length (starts_of p) ≡ p.crew)
 Within line (Start i) = Unit {0}
 Within line (Carry to from kind value) = Unit {0}
 Within line (Forge to from place) = place ≤ length line

@@ -1,7 +1,7 @@
 // A line that has bytes forged: to, from, and the bytes.
 ghost use Rattle.std.specs.Prelude.{◌≡◌, ◌≤◌, length, drop};
-ghost use Rattle.lines.specs.Lines.{forged-in};
-ghost use Rattle.lines.specs.Told.{call-of, Within};
+ghost use Rattle.lines.specs.Lines.{forged_in};
+ghost use Rattle.lines.specs.Told.{call_of, Within};
 
 use crate::field::read_field;
 use crate::line::Line;
@@ -9,7 +9,7 @@ use crate::line::Line;
 // What follows the letter and its comma says it.
 pub(crate) fn forge(line: &[u8]) -> Line
     requires { 2 ≤ length line.now }
-    ensures call { call-of line.now result ≡ forged-in (drop 2 line.now) }
+    ensures call { call_of line.now result ≡ forged_in (drop 2 line.now) }
     ensures within { Within line.now result }
 {
     let Some(to) = read_field(&line[2..]) else {

@@ -1,10 +1,10 @@
 // What a line that opens a group writes: a method's letter, a comma, numbers.
 ghost use Rattle.std.specs.Prelude.{◌≡◌, ℕ, ◌<◌, List, length};
-ghost use Rattle.vote.specs.declared.Method.{Method as Of-method};
+ghost use Rattle.vote.specs.declared.Method.{Method as OfMethod};
 ghost use Rattle.lines.specs.Calls.{Call};
-ghost use Rattle.lines.specs.Lines.{method-of, opened_in};
-ghost use Rattle.lines.specs.Lines.{lettered as is-lettered};
-ghost use Rattle.lines.specs.Told.{head-call};
+ghost use Rattle.lines.specs.Lines.{method_of, opened_in};
+ghost use Rattle.lines.specs.Lines.{lettered as is_lettered};
+ghost use Rattle.lines.specs.Told.{head_call};
 
 use crate::list::read_numbers;
 use crate::numbers::Numbers;
@@ -18,7 +18,7 @@ pub struct Head {
 
 // Whether a comma follows the first byte.
 pub(crate) fn lettered(bytes: &[u8]) -> bool
-    ensures { result ≡ is-lettered bytes.now }
+    ensures { result ≡ is_lettered bytes.now }
 {
     if bytes.len() < 2 {
         return false;
@@ -27,7 +27,7 @@ pub(crate) fn lettered(bytes: &[u8]) -> bool
 }
 
 fn method(letter: u8) -> Option<Method>
-    ensures { result ≡ method-of letter }
+    ensures { result ≡ method_of letter }
 {
     match letter as char {
         'p' => Some(Method::Plain),
@@ -39,7 +39,7 @@ fn method(letter: u8) -> Option<Method>
 // What is then made of the two is what is made of the bytes.
 pub(crate) fn read_head(bytes: &[u8]) -> Option<Head>
     requires { length bytes.now < 120 }
-    ensures { (call : Of-method → List ℕ → Call) → head-call call result ≡ opened_in call bytes.now }
+    ensures { (call : OfMethod → List ℕ → Call) → head_call call result ≡ opened_in call bytes.now }
 {
     if !lettered(bytes) {
         return None;

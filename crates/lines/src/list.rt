@@ -1,7 +1,7 @@
 // Numbers with commas between.
 ghost use Rattle.std.specs.Prelude.{◌≡◌, ◌<◌, ◌≤◌, length, drop, Some, None, MatchOption};
 ghost use Rattle.lines.specs.Items.{items};
-ghost use Rattle.lines.specs.Parts.{numbers-in};
+ghost use Rattle.lines.specs.Parts.{numbers_in};
 
 use crate::number::with_digit;
 use crate::numbers::Numbers;
@@ -9,7 +9,7 @@ use crate::numbers::Numbers;
 // The numbers that the bytes write, if they write such. Each number but the last takes two bytes at least.
 pub(crate) fn read_numbers(bytes: &[u8]) -> Option<Numbers>
     requires { length bytes.now < 120 }
-    ensures { MatchOption result (numbers-in bytes.now ≡ None) (λ v. numbers-in bytes.now ≡ Some (items v)) }
+    ensures { MatchOption result (numbers_in bytes.now ≡ None) (λ v. numbers_in bytes.now ≡ Some (items v)) }
 {
     let mut done = Numbers::new();
     let mut so_far = None;

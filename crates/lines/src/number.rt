@@ -1,12 +1,12 @@
 // Numbers in base ten, without leading zeros and at most 65535.
 ghost use Rattle.std.specs.Prelude.{◌≡◌};
-ghost use Rattle.lines.specs.Parts.{with-digit};
+ghost use Rattle.lines.specs.Parts.{with_digit};
 
 const MAX_NUMBER: u32 = 65535;
 
 // The number so far with one digit more, if there is such a number.
 pub(crate) fn with_digit(so_far: Option<u16>, byte: u8) -> Option<u16>
-    ensures { result ≡ with-digit so_far byte }
+    ensures { result ≡ with_digit so_far byte }
 {
     if byte < b'0' || byte > b'9' {
         return None;

@@ -1,8 +1,8 @@
 // Lines that open a group. Five numbers lead: depth, crew, what the boards fail by, characters, and the set of boards listed bad.
 ghost use Rattle.std.specs.Prelude.{◌≡◌, ℕ, ◌<◌, List, length};
 ghost use Rattle.lines.specs.Items.{items};
-ghost use Rattle.lines.specs.Lines.{open-by-count, open-by-sets, opened_in};
-ghost use Rattle.lines.specs.Told.{open-with, call-of, Within};
+ghost use Rattle.lines.specs.Lines.{open_by_count, open_by_sets, opened_in};
+ghost use Rattle.lines.specs.Told.{open_with, call_of, Within};
 
 use crate::head::read_head;
 use crate::line::Line;
@@ -16,7 +16,7 @@ const LEADING: usize = 5;
 
 // The sets and the starting characters follow, and nothing else.
 fn open(method: Method, numbers: &Numbers, by: By) -> Line
-    ensures call { (line : List ℕ) → call-of line result ≡ open-with method (items numbers.now) by }
+    ensures call { (line : List ℕ) → call_of line result ≡ open_with method (items numbers.now) by }
     ensures within { (line : List ℕ) → Within line result }
 {
     let crew = numbers.at(1);
@@ -36,7 +36,7 @@ fn open(method: Method, numbers: &Numbers, by: By) -> Line
 
 pub(crate) fn open_by_count(body: &[u8]) -> Line
     requires { length body.now < 120 }
-    ensures call { (line : List ℕ) → call-of line result ≡ opened_in open-by-count body.now }
+    ensures call { (line : List ℕ) → call_of line result ≡ opened_in open_by_count body.now }
     ensures within { (line : List ℕ) → Within line result }
 {
     match read_head(body) {
@@ -47,7 +47,7 @@ pub(crate) fn open_by_count(body: &[u8]) -> Line
 
 pub(crate) fn open_by_sets(body: &[u8]) -> Line
     requires { length body.now < 120 }
-    ensures call { (line : List ℕ) → call-of line result ≡ opened_in open-by-sets body.now }
+    ensures call { (line : List ℕ) → call_of line result ≡ opened_in open_by_sets body.now }
     ensures within { (line : List ℕ) → Within line result }
 {
     match read_head(body) {

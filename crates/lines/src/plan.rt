@@ -1,6 +1,6 @@
 // A group as a line asks for it.
 ghost use Rattle.std.specs.Prelude.{◌≡◌};
-ghost use Rattle.lines.specs.Told.{sets_of, starts-of, sets-many};
+ghost use Rattle.lines.specs.Told.{sets_of, starts_of, sets_many};
 
 use crate::numbers::Numbers;
 use vote::Method;
@@ -28,7 +28,7 @@ pub struct Plan {
 impl By {
     // How many listed sets lead the numbers.
     pub(crate) fn sets(self) -> usize
-        ensures { result ≡ sets-many self }
+        ensures { result ≡ sets_many self }
     {
         match self {
             By::Count(_) => 0,
@@ -47,7 +47,7 @@ impl Plan {
 
     // The character that each board starts from.
     pub fn starts(&self) -> &[u16]
-        ensures { result.now ≡ starts-of self.now }
+        ensures { result.now ≡ starts_of self.now }
     {
         let all = self.numbers.all();
         &all[self.by.sets().min(all.len())..]

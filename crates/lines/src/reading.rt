@@ -1,11 +1,11 @@
 // Which call a line writes.
 ghost use Rattle.std.specs.Prelude.{◌≡◌};
-ghost use Rattle.lines.specs.Lines.{call-in};
+ghost use Rattle.lines.specs.Lines.{call_in};
 ghost use Rattle.lines.specs.Lines.{whole as is_whole};
-ghost use Rattle.lines.specs.Marked.{Marked-cases-hold};
-ghost use Rattle.lines.specs.Readable.{Each-call-is-readable};
+ghost use Rattle.lines.specs.Marked.{MarkedCasesHold};
+ghost use Rattle.lines.specs.Readable.{EachCallIsReadable};
 ghost use Rattle.lines.specs.Texts.{Writes};
-ghost use Rattle.lines.specs.Told.{call-of, Within};
+ghost use Rattle.lines.specs.Told.{call_of, Within};
 
 use crate::forge::forge;
 use crate::head::lettered;
@@ -28,11 +28,11 @@ fn whole(line: &[u8]) -> bool
 
 // The call that the bytes write; its line feed is the last byte of a line.
 pub fn read_line(line: &[u8]) -> Line
-    ensures call { call-of line.now result ≡ call-in line.now }
+    ensures call { call_of line.now result ≡ call_in line.now }
     ensures within { Within line.now result }
-    ensures a_readable_line_is_the_one_its_call_has { Writes line.now (call-of line.now result) }
-    ensures each_call_is_readable { Each-call-is-readable }
-    ensures the_marked_cases_hold { Marked-cases-hold }
+    ensures a_readable_line_is_the_one_its_call_has { Writes line.now (call_of line.now result) }
+    ensures each_call_is_readable { EachCallIsReadable }
+    ensures the_marked_cases_hold { MarkedCasesHold }
 {
     if !whole(line) {
         return Line::Unreadable;

@@ -9,13 +9,13 @@ use Rattle.vote.specs.declared.News.{News}
 use Rattle.vote.specs.declared.Vote.{Vote}
 use Rattle.vote.specs.Search.{is}
 use Rattle.vote.specs.Setting.{Setting}
-use Rattle.agreement.specs.Plain.{branch, branch-posted, posts, decided, plain}
-use Rattle.vote.specs.News.{news-of}
-use Rattle.plain_board.specs.Step.{repeats, taken, no-news, branch-news}
+use Rattle.agreement.specs.Plain.{branch, branch_posted, posts, decided, plain}
+use Rattle.vote.specs.News.{news_of}
+use Rattle.plain_board.specs.Step.{repeats, taken, no_news, branch_news}
 use Rattle.plain_board.specs.Marks.{words, Marks}
-use Rattle.plain_board.proofs.Memory.{branch-low, branch-stays, decision-stays}
-use Rattle.plain_board.proofs.Graded.{decided-fits}
-use Rattle.plain_board.proofs.News.{quiet, fixed-news}
+use Rattle.plain_board.proofs.Memory.{branch_low, branch_stays, decision_stays}
+use Rattle.plain_board.proofs.Graded.{decided_fits}
+use Rattle.plain_board.proofs.News.{quiet, fixed_news}
 
 ones_none : ones 0 ≡ 0
 unfolding ones
@@ -28,64 +28,64 @@ ones_bit (suc b) =
     let half : 2 ^ suc b / 2 ≡ 2 ^ b = omega arith in
     ones_step (2 ^ suc b) ∙ ap (λ (x : ℕ). 2 ^ suc b % 2 + ones x) half ∙ (let k = ones_bit b in omega arith)
 
-no_words : words no-news ≤ 1
+no_words : words no_news ≤ 1
 no_words = let e = ones_none in omega arith
 
-branch-words : (d : Depth) (b : ℕ) → words (branch-news d b) ≤ 1
-branch-words One b = no_words
-branch-words Two b = let e = ones_none in let f = ones_bit b in omega arith
+branch_words : (d : Depth) (b : ℕ) → words (branch_news d b) ≤ 1
+branch_words One b = no_words
+branch_words Two b = let e = ones_none in let f = ones_bit b in omega arith
 
 module _ (S : Setting) where
   stays : (h : List Vote) (w : Vote) (d : Decision) → decided S h ≡ Some d → (again : Bool) → decided S (cond again h (w ∷ h)) ≡ Some d
   stays h w d e true = e
-  stays h w d e false = decision-stays S w h d e
+  stays h w d e false = decision_stays S w h d e
 
   -- ---- words that are posted
-  posted-branch : (h : List Vote) (d : Depth) (v : ℕ) → is v (branch-posted S d h) ≡ true → (branch S h ≡ Some v) × (d ≡ Two)
-  posted-branch h One v t = absurd (false≢true t)
-  posted-branch h Two v t = (is_held v (branch S h) t, refl)
+  posted_branch : (h : List Vote) (d : Depth) (v : ℕ) → is v (branch_posted S d h) ≡ true → (branch S h ≡ Some v) × (d ≡ Two)
+  posted_branch h One v t = absurd (false≢true t)
+  posted_branch h Two v t = (is_held v (branch S h) t, refl)
     where
       is_held : (v : ℕ) (o : Option ℕ) → is v o ≡ true → o ≡ Some v
       is_held v None t = absurd (false≢true t)
       is_held v (Some b) t = ap {B = Option ℕ} Some (sym (eqb-true v b t))
 
-  more-posted : (start : ℕ) (h : List Vote) (w : Vote) (c v : ℕ) → posts S start h c v ≡ true → posts S start (w ∷ h) c v ≡ true
+  more_posted : (start : ℕ) (h : List Vote) (w : Vote) (c v : ℕ) → posts S start h c v ≡ true → posts S start (w ∷ h) c v ≡ true
   unfolding posts
-  more-posted start h w c v t = by_kind (eqb c 1) (eqb c 2) t
+  more_posted start h w c v t = by_kind (eqb c 1) (eqb c 2) t
     where
-      by_kind : (a b : Bool) → cond a (eqb v start) (b && is v (branch-posted S S.depth h)) ≡ true → cond a (eqb v start) (b && is v (branch-posted S S.depth (w ∷ h))) ≡ true
+      by_kind : (a b : Bool) → cond a (eqb v start) (b && is v (branch_posted S S.depth h)) ≡ true → cond a (eqb v start) (b && is v (branch_posted S S.depth (w ∷ h))) ≡ true
       by_kind true b t = t
       by_kind false true t =
-          let k = posted-branch h S.depth v t in
-          ap (λ (d : Depth). is v (branch-posted S d (w ∷ h))) k.1 ∙ ap (λ (o : Option ℕ). is v o) (branch-stays S w h v k.0) ∙ eq-eqb v v refl
+          let k = posted_branch h S.depth v t in
+          ap (λ (d : Depth). is v (branch_posted S d (w ∷ h))) k.1 ∙ ap (λ (o : Option ℕ). is v o) (branch_stays S w h v k.0) ∙ eq-eqb v v refl
       by_kind false false t = t
 
-  still-posted : (start : ℕ) (h : List Vote) (w : Vote) (c v : ℕ) → posts S start h c v ≡ true → (again : Bool) → posts S start (cond again h (w ∷ h)) c v ≡ true
-  still-posted start h w c v t true = t
-  still-posted start h w c v t false = more-posted start h w c v t
+  still_posted : (start : ℕ) (h : List Vote) (w : Vote) (c v : ℕ) → posts S start h c v ≡ true → (again : Bool) → posts S start (cond again h (w ∷ h)) c v ≡ true
+  still_posted start h w c v t true = t
+  still_posted start h w c v t false = more_posted start h w c v t
 
-  low-posted : (start : ℕ) (h : List Vote) (c v : ℕ) → start ≤ S.characters → posts S start h c v ≡ true → v ≤ S.characters
+  low_posted : (start : ℕ) (h : List Vote) (c v : ℕ) → start ≤ S.characters → posts S start h c v ≡ true → v ≤ S.characters
   unfolding posts
-  low-posted start h c v low t = by_kind (eqb c 1) (eqb c 2) t
+  low_posted start h c v low t = by_kind (eqb c 1) (eqb c 2) t
     where
-      by_kind : (a b : Bool) → cond a (eqb v start) (b && is v (branch-posted S S.depth h)) ≡ true → v ≤ S.characters
+      by_kind : (a b : Bool) → cond a (eqb v start) (b && is v (branch_posted S S.depth h)) ≡ true → v ≤ S.characters
       by_kind true b t = let e = eqb-true v start t in omega arith
-      by_kind false true t = branch-low S h v (posted-branch h S.depth v t).0
+      by_kind false true t = branch_low S h v (posted_branch h S.depth v t).0
       by_kind false false t = absurd (false≢true t)
 
-  few_words : S.characters ≤ 8 → (start : ℕ) (h : List Vote) (w : Vote) (o p : Option ℕ) → branch S h ≡ o → branch S (w ∷ h) ≡ p → words (news-of (plain S) start h w) ≤ 1
-  few_words low start h w (Some b) p e q = subst (λ (m : News). words m ≤ 1) (quiet S start h w (branch-stays S w h b e ∙ sym e)) no_words
+  few_words : S.characters ≤ 8 → (start : ℕ) (h : List Vote) (w : Vote) (o p : Option ℕ) → branch S h ≡ o → branch S (w ∷ h) ≡ p → words (news_of (plain S) start h w) ≤ 1
+  few_words low start h w (Some b) p e q = subst (λ (m : News). words m ≤ 1) (quiet S start h w (branch_stays S w h b e ∙ sym e)) no_words
   few_words low start h w None None e q = subst (λ (m : News). words m ≤ 1) (quiet S start h w (q ∙ sym e)) no_words
   few_words low start h w None (Some b) e q =
-      let l = branch-low S (w ∷ h) b q in
-      subst (λ (m : News). words m ≤ 1) (fixed-news S start h w b (omega arith) e q) (branch-words S.depth b)
+      let l = branch_low S (w ∷ h) b q in
+      subst (λ (m : News). words m ≤ 1) (fixed_news S start h w b (omega arith) e q) (branch_words S.depth b)
 
-  pub marks-hold : Marks S
+  pub marks_hold : Marks S
   unfolding taken
-  marks-hold = record {
-    decision-stays = λ h w d e. stays h w d e (repeats h w);
-    decision-fits = decided-fits S;
-    posted-stays = λ start h w c v t. still-posted start h w c v t (repeats h w);
-    posted-fits = low-posted;
-    one-word-at-most = λ low start h w. few_words low start h w (branch S h) (branch S (w ∷ h)) refl refl;
+  marks_hold = record {
+    decision_stays = λ h w d e. stays h w d e (repeats h w);
+    decision_fits = decided_fits S;
+    posted_stays = λ start h w c v t. still_posted start h w c v t (repeats h w);
+    posted_fits = low_posted;
+    one_word_at_most = λ low start h w. few_words low start h w (branch S h) (branch S (w ∷ h)) refl refl;
   }

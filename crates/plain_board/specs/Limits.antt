@@ -2,9 +2,9 @@
 use Rattle.std.specs.Prelude.{ℕ}
 
 -- the greatest value that a vote bears
-abbrev pub max-value : ℕ
-max-value = 8
+abbrev pub max_value : ℕ
+max_value = 8
 
 -- as many values as there are: 0 and the characters
-abbrev pub all-values : ℕ
-all-values = 9
+abbrev pub all_values : ℕ
+all_values = 9

@@ -5,8 +5,8 @@ use Rattle.vote.specs.declared.News.{News}
 use Rattle.vote.specs.declared.Vote.{Vote}
 use Rattle.vote.specs.Setting.{Setting, grades}
 use Rattle.agreement.specs.Plain.{posts, decided, plain}
-use Rattle.vote.specs.News.{news-of}
-use Rattle.plain_board.specs.Limits.{max-value}
+use Rattle.vote.specs.News.{news_of}
+use Rattle.plain_board.specs.Limits.{max_value}
 use Rattle.plain_board.specs.Step.{taken}
 
 -- how many words the news hold: each value of each kind is one
@@ -15,16 +15,16 @@ words m = sum (map count_ones m.kinds)
 
 pub record Marks (S : Setting) : Type 0 where
   -- a decision, once there, stays
-  pub decision-stays : (h : List Vote) (w : Vote) (d : Decision) → decided S h ≡ Some d → decided S (taken h w) ≡ Some d
+  pub decision_stays : (h : List Vote) (w : Vote) (d : Decision) → decided S h ≡ Some d → decided S (taken h w) ≡ Some d
   -- it is for a character that there is, or for none, with a grade that there is
-  pub decision-fits : (h : List Vote) (d : Decision) → decided S h ≡ Some d → (d.value ≤ S.characters) × (d.grade ≤ grades S.depth)
+  pub decision_fits : (h : List Vote) (d : Decision) → decided S h ≡ Some d → (d.value ≤ S.characters) × (d.grade ≤ grades S.depth)
   -- a word, once posted, stays posted
-  pub posted-stays : (start : ℕ) (h : List Vote) (w : Vote) (c v : ℕ) → posts S start h c v ≡ true → posts S start (taken h w) c v ≡ true
+  pub posted_stays : (start : ℕ) (h : List Vote) (w : Vote) (c v : ℕ) → posts S start h c v ≡ true → posts S start (taken h w) c v ≡ true
   -- a word that is posted bears a value that there is
-  pub posted-fits : (start : ℕ) (h : List Vote) (c v : ℕ) → start ≤ S.characters → posts S start h c v ≡ true → v ≤ S.characters
+  pub posted_fits : (start : ℕ) (h : List Vote) (c v : ℕ) → start ≤ S.characters → posts S start h c v ≡ true → v ≤ S.characters
   -- one counted vote posts one word at most
-  pub one-word-at-most : S.characters ≤ max-value → (start : ℕ) (h : List Vote) (w : Vote) → words (news-of (plain S) start h w) ≤ 1
+  pub one_word_at_most : S.characters ≤ max_value → (start : ℕ) (h : List Vote) (w : Vote) → words (news_of (plain S) start h w) ≤ 1
 
 -- The same, shut: a contract names this, so that a caller's search does not look into it.
-unfoldable pub Plain-marks : Setting → Type 0
-Plain-marks S = Marks S
+unfoldable pub PlainMarks : Setting → Type 0
+PlainMarks S = Marks S

@@ -2,14 +2,14 @@
 use Rattle.std.specs.Prelude.{ℕ, List, map, Some, None, Option}
 use Rattle.std.specs.List.{range_with_len}
 use Rattle.quorum.specs.Rules.{Rule}
-use Rattle.quorum.specs.Sets.{setOf}
+use Rattle.quorum.specs.Sets.{set_of}
 use Rattle.vote.specs.declared.Decision.{Decision}
 use Rattle.vote.specs.declared.Depth.{Depth}
 use Rattle.vote.specs.declared.Vote.{Vote}
 use Rattle.vote.specs.History.{Seen, seen, says, speaks}
 use Rattle.vote.specs.Setting.{Setting}
 use Rattle.agreement.specs.Plain.{branch, decided}
-use Rattle.plain_board.specs.Limits.{all-values}
+use Rattle.plain_board.specs.Limits.{all_values}
 use Rattle.plain_board.specs.declared.tally.Tally.{Tally}
 use Rattle.plain_board.specs.declared.stage.Stage.{Stage}
 use Rattle.plain_board.specs.declared.stage.Stage.TheVariants.{Gathering, Comparing, Decided}
@@ -23,19 +23,19 @@ abbrev pub table : ℕ → (ℕ → ℕ) → List ℕ
 table n f = map f (range_with_len 0 n)
 
 -- the senders of kind c in a crew of n, by the value of their first vote, and all
-unfoldable pub tally-of : ℕ → Seen → ℕ → Tally
-tally-of n x c = record { values = table all-values (λ v. setOf n (says x c v)); all = setOf n (speaks x c) }
+unfoldable pub tally_of : ℕ → Seen → ℕ → Tally
+tally_of n x c = record { values = table all_values (λ v. set_of n (says x c v)); all = set_of n (speaks x c) }
 
 -- gathering until there is a branch, comparing until there is a decision
-abbrev pub stage-of : Option ℕ → Option Decision → Stage
-stage-of None d = Gathering
-stage-of (Some b) None = Comparing b
-stage-of (Some b) (Some d) = Decided b d
+abbrev pub stage_of : Option ℕ → Option Decision → Stage
+stage_of None d = Gathering
+stage_of (Some b) None = Comparing b
+stage_of (Some b) (Some d) = Decided b d
 
 -- the record of a board that has counted h
 unfoldable pub record_of : Setting → List Vote → PlainRecord
 record_of S h = record {
-  stage = stage-of (branch S h) (decided S h);
-  first = tally-of S.rule.crew (seen h) 1;
-  second = tally-of S.rule.crew (seen h) 2;
+  stage = stage_of (branch S h) (decided S h);
+  first = tally_of S.rule.crew (seen h) 1;
+  second = tally_of S.rule.crew (seen h) 2;
 }

@@ -7,10 +7,10 @@ use Rattle.vote.specs.declared.Vote.{Vote}
 use Rattle.vote.specs.History.{seen, speaks}
 use Rattle.vote.specs.Setting.{Setting}
 use Rattle.agreement.specs.Plain.{plain}
-use Rattle.vote.specs.News.{news-of}
+use Rattle.vote.specs.News.{news_of}
 use Rattle.plain_board.specs.declared.record.PlainRecord.{PlainRecord}
 use Rattle.plain_board.specs.declared.tally.Tally.{Tally}
-use Rattle.plain_board.specs.Shown.{tally-of, record_of}
+use Rattle.plain_board.specs.Shown.{tally_of, record_of}
 
 -- a vote of this kind and sender is in the history: only the first of each counts
 abbrev pub repeats : List Vote → Vote → Bool
@@ -19,27 +19,27 @@ repeats h w = speaks (seen h) w.kind w.sender
 -- from a tally of the senders of w's kind, w leads to one with its sender
 abbrev pub Adds : Vote → Tally → Tally → Type 0
 Adds w entry exit =
-    (n : ℕ) (h : List Vote) → w.sender < n → repeats h w ≡ false → entry ≡ tally-of n (seen h) w.kind → exit ≡ tally-of n (seen (w ∷ h)) w.kind
+    (n : ℕ) (h : List Vote) → w.sender < n → repeats h w ≡ false → entry ≡ tally_of n (seen h) w.kind → exit ≡ tally_of n (seen (w ∷ h)) w.kind
 
 -- the history once w has come
 unfoldable pub taken : List Vote → Vote → List Vote
 taken h w = cond (repeats h w) h (w ∷ h)
 
 -- nothing where w repeats, and otherwise the words newly posted, perhaps none
-unfoldable pub answer-of : Setting → ℕ → List Vote → Vote → Option News
-answer-of S start h w = cond (repeats h w) None (Some (news-of (plain S) start h w))
+unfoldable pub answer_of : Setting → ℕ → List Vote → Vote → Option News
+answer_of S start h w = cond (repeats h w) None (Some (news_of (plain S) start h w))
 
 -- From a record that shows a history, w leads to one that shows it with w, and r is the answer, whatever character the board started with.
 -- With a cover of 0 the whole crew could fail, so that nobody would be waited for; no rule of a vote has it.
 unfoldable pub Counts : Setting → Vote → PlainRecord → PlainRecord → Option News → Type 0
 Counts S w entry exit r =
-    (h : List Vote) → 1 ≤ S.rule.cover → entry ≡ record_of S h → (exit ≡ record_of S (taken h w)) × ((start : ℕ) → r ≡ answer-of S start h w)
+    (h : List Vote) → 1 ≤ S.rule.cover → entry ≡ record_of S h → (exit ≡ record_of S (taken h w)) × ((start : ℕ) → r ≡ answer_of S start h w)
 
 -- ---- the news that there can be
-abbrev pub no-news : News
-no-news = record { kinds = 0 ∷ 0 ∷ 0 ∷ 0 ∷ 0 ∷ [] }
+abbrev pub no_news : News
+no_news = record { kinds = 0 ∷ 0 ∷ 0 ∷ 0 ∷ 0 ∷ [] }
 
 -- a branch that is just fixed is posted at depth 2
-abbrev pub branch-news : Depth → ℕ → News
-branch-news One b = no-news
-branch-news Two b = record { kinds = 0 ∷ 2 ^ b ∷ 0 ∷ 0 ∷ 0 ∷ [] }
+abbrev pub branch_news : Depth → ℕ → News
+branch_news One b = no_news
+branch_news Two b = record { kinds = 0 ∷ 2 ^ b ∷ 0 ∷ 0 ∷ 0 ∷ [] }

@@ -1,11 +1,11 @@
 // What a board whose branch is fixed comes to.
 ghost use Rattle.std.specs.Prelude.{◌≡◌, ◌≤◌};
 ghost use Rattle.vote.specs.History.{Seen};
-ghost use Rattle.vote.specs.Setting.{Setting, decision-on};
-ghost use Rattle.agreement.specs.Plain.{compared as comparedWith};
-ghost use Rattle.plain_board.specs.Limits.{max-value};
-ghost use Rattle.plain_board.specs.Shown.{setting, tally-of};
-ghost use Rattle.plain_board.specs.Read.{Stage-on};
+ghost use Rattle.vote.specs.Setting.{Setting, decision_on};
+ghost use Rattle.agreement.specs.Plain.{compared as compared_with};
+ghost use Rattle.plain_board.specs.Limits.{max_value};
+ghost use Rattle.plain_board.specs.Shown.{setting, tally_of};
+ghost use Rattle.plain_board.specs.Read.{StageOn};
 
 use crate::stage::Stage;
 use crate::tally::Tally;
@@ -14,7 +14,7 @@ use vote::{Decision, Depth};
 
 // A character has the grade, and no character has none.
 fn graded(grade: u8, value: u8) -> Decision
-    ensures { result ≡ decision-on grade value }
+    ensures { result ≡ decision_on grade value }
 {
     if value == 0 {
         return Decision { value: 0, grade: 0 };
@@ -24,8 +24,8 @@ fn graded(grade: u8, value: u8) -> Decision
 
 // What the words of kind 2 decide at depth 2. A board without a character takes one that another had; a board with one is sure if nobody differs.
 fn compared(second: &Tally, characters: u8, branch: u8) -> Decision
-    requires { characters ≤ max-value }
-    ensures { (S : Setting) (x : Seen) → S.characters ≡ characters → branch ≤ max-value → second.now ≡ tally-of S.rule.crew x 2 → result ≡ comparedWith S branch x }
+    requires { characters ≤ max_value }
+    ensures { (S : Setting) (x : Seen) → S.characters ≡ characters → branch ≤ max_value → second.now ≡ tally_of S.rule.crew x 2 → result ≡ compared_with S branch x }
 {
     if branch == 0 {
         return graded(1, second.least(characters));
@@ -44,8 +44,8 @@ pub(crate) fn stage_on<R: FailureRule>(
     branch: u8,
     second: &Tally,
 ) -> Stage
-    requires { characters ≤ max-value }
-    ensures { Stage-on (setting (R.meaning rule.now) characters depth) branch second.now result }
+    requires { characters ≤ max_value }
+    ensures { StageOn (setting (R.meaning rule.now) characters depth) branch second.now result }
 {
     match depth {
         Depth::One => Stage::Decided(branch, graded(1, branch)),

@@ -1,8 +1,8 @@
 // The words that a plain board has posted, and those that it newly posts.
 ghost use Rattle.std.specs.Prelude.{◌≡◌, ◌≤◌};
 ghost use Rattle.vote.specs.Search.{is};
-ghost use Rattle.plain_board.specs.Limits.{max-value};
-ghost use Rattle.plain_board.specs.Step.{no-news, branch-news};
+ghost use Rattle.plain_board.specs.Limits.{max_value};
+ghost use Rattle.plain_board.specs.Step.{no_news, branch_news};
 
 use vote::{Depth, News};
 
@@ -17,15 +17,15 @@ pub(crate) fn bears(word: Option<u8>, value: u8) -> bool
 }
 
 pub(crate) fn none() -> News
-    ensures { result ≡ no-news }
+    ensures { result ≡ no_news }
 {
     News { kinds: [0; 5] }
 }
 
 // A branch that is just fixed: at depth 2 the others compare theirs with it, at depth 1 nobody asks for it.
 pub(crate) fn on_branch(depth: Depth, branch: u8) -> News
-    requires { branch ≤ max-value }
-    ensures { result ≡ branch-news depth branch }
+    requires { branch ≤ max_value }
+    ensures { result ≡ branch_news depth branch }
 {
     match depth {
         Depth::One => none(),

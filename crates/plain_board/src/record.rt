@@ -1,13 +1,13 @@
 // The record of one plain board.
 ghost use Rattle.std.specs.Prelude.{◌≡◌, ◌<◌, ◌≤◌, List, []};
-ghost use Rattle.quorum.specs.Limits.{max-crew};
+ghost use Rattle.quorum.specs.Limits.{max_crew};
 ghost use Rattle.vote.specs.declared.Vote.{Vote};
 ghost use Rattle.vote.specs.Setting.{Setting};
-ghost use Rattle.agreement.specs.Plain.{branch as branchBy, decided as decidedBy, posts};
-ghost use Rattle.plain_board.specs.Limits.{max-value};
-ghost use Rattle.plain_board.specs.Marks.{Plain-marks};
+ghost use Rattle.agreement.specs.Plain.{branch as branch_by, decided as decided_by, posts};
+ghost use Rattle.plain_board.specs.Limits.{max_value};
+ghost use Rattle.plain_board.specs.Marks.{PlainMarks};
 ghost use Rattle.plain_board.specs.Shown.{setting, record_of};
-ghost use Rattle.plain_board.specs.Step.{repeats as repeatsIn, Counts};
+ghost use Rattle.plain_board.specs.Step.{repeats as repeats_in, Counts};
 
 use crate::outcome::stage_on;
 use crate::posted;
@@ -38,7 +38,7 @@ impl PlainRecord {
 
     // What is decided, if anything is.
     pub fn decided(&self) -> Option<Decision>
-        ensures { (S : Setting) (h : List Vote) → self.now ≡ record_of S h → result ≡ decidedBy S h }
+        ensures { (S : Setting) (h : List Vote) → self.now ≡ record_of S h → result ≡ decided_by S h }
     {
         match self.stage {
             Stage::Gathering => None,
@@ -49,7 +49,7 @@ impl PlainRecord {
 
     // The branch, if it is fixed.
     fn branch(&self) -> Option<u8>
-        ensures { (S : Setting) (h : List Vote) → self.now ≡ record_of S h → result ≡ branchBy S h }
+        ensures { (S : Setting) (h : List Vote) → self.now ≡ record_of S h → result ≡ branch_by S h }
     {
         match self.stage {
             Stage::Gathering => None,
@@ -76,8 +76,8 @@ impl PlainRecord {
 
     // Whether a word of this kind and sender has been counted.
     fn repeats(&self, vote: Vote) -> bool
-        requires { (vote.sender < max-crew) × ((1 ≤ vote.kind) × (vote.kind ≤ 2)) }
-        ensures { (S : Setting) (h : List Vote) → vote.sender < S.rule.crew → self.now ≡ record_of S h → result ≡ repeatsIn h vote }
+        requires { (vote.sender < max_crew) × ((1 ≤ vote.kind) × (vote.kind ≤ 2)) }
+        ensures { (S : Setting) (h : List Vote) → vote.sender < S.rule.crew → self.now ≡ record_of S h → result ≡ repeats_in h vote }
     {
         match vote.kind {
             1 => self.first.has(vote.sender),
@@ -94,11 +94,11 @@ impl PlainRecord {
         depth: Depth,
         vote: Vote,
     ) -> Option<News>
-        requires sender_lt_max_crew { (vote.sender < max-crew) × (vote.sender < (R.meaning rule.now).crew) }
+        requires sender_lt_max_crew { (vote.sender < max_crew) × (vote.sender < (R.meaning rule.now).crew) }
         requires le_kind { (1 ≤ vote.kind) × (vote.kind ≤ 2) }
-        requires value_le_max_value { (vote.value ≤ max-value) × (characters ≤ max-value) }
+        requires value_le_max_value { (vote.value ≤ max_value) × (characters ≤ max_value) }
         ensures shows { Counts (setting (R.meaning rule.now) characters depth) vote self.old self.new result }
-        ensures marks { Plain-marks (setting (R.meaning rule.now) characters depth) }
+        ensures marks { PlainMarks (setting (R.meaning rule.now) characters depth) }
     {
         if self.repeats(vote) {
             return None;

@@ -1,12 +1,12 @@
 // The senders of one kind of word.
 ghost use Rattle.std.specs.Prelude.{◌≡◌, ℕ, ◌<◌, ◌≤◌, [], false};
-ghost use Rattle.quorum.specs.Limits.{max-crew};
+ghost use Rattle.quorum.specs.Limits.{max_crew};
 ghost use Rattle.quorum.specs.Sets.{member};
 ghost use Rattle.vote.specs.History.{seen};
-ghost use Rattle.plain_board.specs.Limits.{max-value};
-ghost use Rattle.plain_board.specs.Shown.{tally-of};
+ghost use Rattle.plain_board.specs.Limits.{max_value};
+ghost use Rattle.plain_board.specs.Shown.{tally_of};
 ghost use Rattle.plain_board.specs.Step.{Adds};
-ghost use Rattle.plain_board.specs.Read.{agreed, Reads, common-of, least-of};
+ghost use Rattle.plain_board.specs.Read.{agreed, Reads, common_of, least_of};
 
 use crate::limits::{MAX_VALUE, VALUES};
 use vote::Vote;
@@ -21,7 +21,7 @@ pub struct Tally {
 impl Tally {
     // Nobody has sent a word of the kind.
     pub(crate) fn empty() -> Tally
-        ensures { (n c : ℕ) → result ≡ tally-of n (seen []) c }
+        ensures { (n c : ℕ) → result ≡ tally_of n (seen []) c }
     {
         Tally {
             values: [0; VALUES],
@@ -37,7 +37,7 @@ impl Tally {
 
     // Whether a word of the sender has been counted.
     pub(crate) fn has(&self, sender: u8) -> bool
-        requires { sender < max-crew }
+        requires { sender < max_crew }
         ensures { result ≡ member sender self.now.all }
     {
         (self.all >> sender) % 2 == 1
@@ -45,7 +45,7 @@ impl Tally {
 
     // Counts the first word of its kind of a sender.
     pub(crate) fn add(&mut self, vote: Vote)
-        requires { (vote.sender < max-crew) × (vote.value ≤ max-value) }
+        requires { (vote.sender < max_crew) × (vote.value ≤ max_value) }
         ensures { Adds vote self.old self.new }
     {
         self.values[vote.value as usize] |= 1 << vote.sender;
@@ -54,8 +54,8 @@ impl Tally {
 
     // Whether every sender's word bears the value; of one above the greatest none does.
     pub(crate) fn agrees_on(&self, value: u8) -> bool
-        ensures value { value ≤ max-value → result ≡ agreed self.now value }
-        ensures beyond { max-value < value → result ≡ false }
+        ensures value { value ≤ max_value → result ≡ agreed self.now value }
+        ensures beyond { max_value < value → result ≡ false }
     {
         if value > MAX_VALUE {
             return false;
@@ -65,9 +65,9 @@ impl Tally {
 
     // The lowest character that every sender's word bears, or 0.
     pub(crate) fn common(&self, characters: u8) -> u8
-        requires { characters ≤ max-value }
+        requires { characters ≤ max_value }
         ensures low { result ≤ characters }
-        ensures value { Reads characters common-of self.now result }
+        ensures value { Reads characters common_of self.now result }
     {
         for v in 1..characters + 1 {
             if self.agrees_on(v) {
@@ -79,8 +79,8 @@ impl Tally {
 
     // The lowest character that some sender's word bears, or 0.
     pub(crate) fn least(&self, characters: u8) -> u8
-        requires { characters ≤ max-value }
-        ensures { Reads characters least-of self.now result }
+        requires { characters ≤ max_value }
+        ensures { Reads characters least_of self.now result }
     {
         for v in 1..characters + 1 {
             if self.values[v as usize] != 0 {

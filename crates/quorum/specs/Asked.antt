@@ -2,22 +2,22 @@
 use Rattle.std.specs.Prelude.{◌≡◌, ℕ, Bool, true, ◌&&◌, List, [], ◌∷◌, Some, None, Option, ◌==◌}
 use Rattle.quorum.specs.declared.fault.RuleFault.{RuleFault}
 use Rattle.quorum.specs.Rules.{Rule}
-use Rattle.quorum.specs.Counting.{count-rule}
-use Rattle.quorum.specs.Listing.{listed-rule}
-use Rattle.quorum.specs.Faults.{number_of, count-fault, listed-fault}
+use Rattle.quorum.specs.Counting.{count_rule}
+use Rattle.quorum.specs.Listing.{listed_rule}
+use Rattle.quorum.specs.Faults.{number_of, count_fault, listed_fault}
 
 -- a count rule by crew, cover and f, or a listed rule by crew, cover and sets
 pub data Asked : Type 0 where
   counting : ℕ → ℕ → ℕ → Asked
   listing : ℕ → ℕ → List ℕ → Asked
 
-abbrev pub rule-of : Asked → Rule
-rule-of (counting n c f) = count-rule n c f
-rule-of (listing n c ms) = listed-rule n c ms
+abbrev pub rule_of : Asked → Rule
+rule_of (counting n c f) = count_rule n c f
+rule_of (listing n c ms) = listed_rule n c ms
 
-abbrev pub fault-of : Asked → Option RuleFault
-fault-of (counting n c f) = count-fault n c f
-fault-of (listing n c ms) = listed-fault n c ms
+abbrev pub fault_of : Asked → Option RuleFault
+fault_of (counting n c f) = count_fault n c f
+fault_of (listing n c ms) = listed_fault n c ms
 
 -- the number that is told: 0 where nothing stands against the rule
 abbrev pub told : Option RuleFault → ℕ
@@ -34,9 +34,9 @@ marked =
     ∷ (listing 6 3 (3 ∷ 12 ∷ 48 ∷ []), 5)
     ∷ []
 
-abbrev pub as-told : List (Asked × ℕ) → Bool
-as-told [] = true
-as-told (row ∷ rows) = told (fault-of row.0) == row.1 && as-told rows
+abbrev pub as_told : List (Asked × ℕ) → Bool
+as_told [] = true
+as_told (row ∷ rows) = told (fault_of row.0) == row.1 && as_told rows
 
-unfoldable pub Marked-cases : Type 0
-Marked-cases = as-told marked ≡ true
+unfoldable pub MarkedCases : Type 0
+MarkedCases = as_told marked ≡ true

@@ -5,15 +5,15 @@ use Rattle.quorum.specs.declared.listed.ListedRule.{ListedRule}
 use Rattle.quorum.specs.declared.either.EitherRule.{EitherRule}
 use Rattle.quorum.specs.declared.either.EitherRule.TheVariants.{Count, Listed}
 use Rattle.quorum.specs.Rules.{Rule}
-use Rattle.quorum.specs.Counting.{count-rule}
-use Rattle.quorum.specs.Listing.{listed-rule}
+use Rattle.quorum.specs.Counting.{count_rule}
+use Rattle.quorum.specs.Listing.{listed_rule}
 
-abbrev pub meaning-of-count : CountRule → Rule
-meaning-of-count x = count-rule x.crew x.cover x.f
+abbrev pub meaning_of_count : CountRule → Rule
+meaning_of_count x = count_rule x.crew x.cover x.f
 
-abbrev pub meaning-of-listed : ListedRule → Rule
-meaning-of-listed x = listed-rule x.crew x.cover (take x.many x.sets)
+abbrev pub meaning_of_listed : ListedRule → Rule
+meaning_of_listed x = listed_rule x.crew x.cover (take x.many x.sets)
 
-abbrev pub either-rule : EitherRule → Rule
-either-rule (Count x) = meaning-of-count x
-either-rule (Listed x) = meaning-of-listed x
+abbrev pub either_rule : EitherRule → Rule
+either_rule (Count x) = meaning_of_count x
+either_rule (Listed x) = meaning_of_listed x

@@ -7,14 +7,14 @@ member zero s = s % 2 == 1
 member (suc i) s = member i (s / 2)
 
 -- the set of the boards below n that pass the test p
-unfoldable pub setOf : ℕ → (ℕ → Bool) → ℕ
-setOf zero p = 0
-setOf (suc n) p = setOf n (λ i. p (suc i)) * 2 + cond (p 0) 1 0
+unfoldable pub set_of : ℕ → (ℕ → Bool) → ℕ
+set_of zero p = 0
+set_of (suc n) p = set_of n (λ i. p (suc i)) * 2 + cond (p 0) 1 0
 
 -- the rest of a crew of n: its boards that are not in s
 unfoldable pub rest : ℕ → ℕ → ℕ
-unfolding setOf
-rest n s = setOf n (λ i. not (member i s))
+unfolding set_of
+rest n s = set_of n (λ i. not (member i s))
 
 -- each board of s is in t
 abbrev pub Part : ℕ → ℕ → Type 0
@@ -25,8 +25,8 @@ abbrev pub part : ℕ → ℕ → Bool
 part s t = bit_or s t == t
 
 -- the set s has no board outside a crew of n
-abbrev pub inCrew : ℕ → ℕ → Bool
-inCrew n s = nat_lt s (2 ^ n)
+abbrev pub in_crew : ℕ → ℕ → Bool
+in_crew n s = nat_lt s (2 ^ n)
 
 -- s holds the whole crew of n: it leaves nobody out
 abbrev pub whole : ℕ → ℕ → Bool
@@ -37,15 +37,15 @@ abbrev pub in_some : ℕ → List ℕ → Bool
 in_some i [] = false
 in_some i (s ∷ ss) = member i s || in_some i ss
 
-abbrev pub inEach : ℕ → List ℕ → Bool
-inEach i [] = true
-inEach i (s ∷ ss) = member i s && inEach i ss
+abbrev pub in_each : ℕ → List ℕ → Bool
+in_each i [] = true
+in_each i (s ∷ ss) = member i s && in_each i ss
 
 -- some set of the list passes the test, and each does
-abbrev pub anyPasses : (ℕ → Bool) → List ℕ → Bool
-anyPasses p [] = false
-anyPasses p (s ∷ ss) = p s || anyPasses p ss
+abbrev pub any_passes : (ℕ → Bool) → List ℕ → Bool
+any_passes p [] = false
+any_passes p (s ∷ ss) = p s || any_passes p ss
 
-abbrev pub allPass : (ℕ → Bool) → List ℕ → Bool
-allPass p [] = true
-allPass p (s ∷ ss) = p s && allPass p ss
+abbrev pub all_pass : (ℕ → Bool) → List ℕ → Bool
+all_pass p [] = true
+all_pass p (s ∷ ss) = p s && all_pass p ss

@@ -2,50 +2,50 @@
 use Rattle.std.specs.Prelude.{◌≡◌, ℕ, zero, suc, ◌<◌, Bool, true, false, not, ◌⊎◌, List, [], ◌∷◌, ◌≢◌, refl}
 use Rattle.std.proofs.Common.{sym, ◌∙◌, inl, inr, ⊎_elim, not-suc-le-zero, arith}
 use Rattle.std.proofs.lemmas.Bool.{true≢false, false≢true, and_parts, and_from, or_cases, or_parts, or_left, or_right, not_from_false, cases_Bool, cases_eq}
-use Rattle.quorum.specs.Sets.{anyPasses, allPass}
+use Rattle.quorum.specs.Sets.{any_passes, all_pass}
 
 -- a test is not both true and false
 pub clash : {X : Type 0} {b : Bool} → b ≡ true → b ≡ false → X
 clash p q = absurd (true≢false (sym p ∙ q))
 
-pub false-since : (a b : Bool) → (a ≡ true → b ≡ true) → b ≡ false → a ≡ false
-false-since true b f h = clash (f refl) h
-false-since false b f h = refl
+pub false_since : (a b : Bool) → (a ≡ true → b ≡ true) → b ≡ false → a ≡ false
+false_since true b f h = clash (f refl) h
+false_since false b f h = refl
 
-pub false-unless : (b : Bool) → (b ≢ true) → b ≡ false
-false-unless true f = absurd (f refl)
-false-unless false f = refl
+pub false_unless : (b : Bool) → (b ≢ true) → b ≡ false
+false_unless true f = absurd (f refl)
+false_unless false f = refl
 
 -- two tests that imply each other are equal
 pub same_truth : (a b : Bool) → (a ≡ true → b ≡ true) → (b ≡ true → a ≡ true) → a ≡ b
 same_truth true b f g = sym (f refl)
-same_truth false b f g = sym (false-unless b (λ h. false≢true (g h)))
+same_truth false b f g = sym (false_unless b (λ h. false≢true (g h)))
 
 -- every number below n passes, or one does not
-pub all-or : (n : ℕ) (p : ℕ → Bool) → ((i : ℕ) → i < n → p i ≡ true) ⊎ ((i : ℕ) × (i < n) × (p i ≡ false))
-all-or zero p = inl (λ i h. absurd (not-suc-le-zero h))
-all-or (suc n) p =
+pub all_or : (n : ℕ) (p : ℕ → Bool) → ((i : ℕ) → i < n → p i ≡ true) ⊎ ((i : ℕ) × (i < n) × (p i ≡ false))
+all_or zero p = inl (λ i h. absurd (not-suc-le-zero h))
+all_or (suc n) p =
     ⊎_elim
     (λ all. ⊎_elim
     (λ here. inl (λ i h. ⊎_elim (λ e. rw e here) (λ ne. all i (omega arith)) (cases_eq i n)))
     (λ here. inr (n, omega arith, here))
     (cases_Bool (p n)))
     (λ k. inr (k.0, omega (arith, k.1), k.2))
-    (all-or n p)
+    (all_or n p)
 
 -- a test that some set of the list passes, put to use
-pub any_found : (p q : ℕ → Bool) (ss : List ℕ) → anyPasses p ss ≡ true → allPass q ss ≡ true → (s : ℕ) × (p s ≡ true) × (q s ≡ true)
+pub any_found : (p q : ℕ → Bool) (ss : List ℕ) → any_passes p ss ≡ true → all_pass q ss ≡ true → (s : ℕ) × (p s ≡ true) × (q s ≡ true)
 any_found p q [] h a = absurd (false≢true h)
 any_found p q (s ∷ ss) h a =
-    let k = and_parts (q s) (allPass q ss) a in
-    ⊎_elim (λ e. (s, e, k.0)) (λ e. any_found p q ss e k.1) (or_cases (p s) (anyPasses p ss) h)
+    let k = and_parts (q s) (all_pass q ss) a in
+    ⊎_elim (λ e. (s, e, k.0)) (λ e. any_found p q ss e k.1) (or_cases (p s) (any_passes p ss) h)
 
-pub any-weaker : (p q : ℕ → Bool) → ((s : ℕ) → p s ≡ true → q s ≡ true) → (ss : List ℕ) → anyPasses p ss ≡ true → anyPasses q ss ≡ true
-any-weaker p q f [] h = h
-any-weaker p q f (s ∷ ss) h =
-    ⊎_elim (λ e. or_left (q s) (anyPasses q ss) (f s e)) (λ e. or_right (q s) (anyPasses q ss) (any-weaker p q f ss e)) (or_cases (p s) (anyPasses p ss) h)
+pub any_weaker : (p q : ℕ → Bool) → ((s : ℕ) → p s ≡ true → q s ≡ true) → (ss : List ℕ) → any_passes p ss ≡ true → any_passes q ss ≡ true
+any_weaker p q f [] h = h
+any_weaker p q f (s ∷ ss) h =
+    ⊎_elim (λ e. or_left (q s) (any_passes q ss) (f s e)) (λ e. or_right (q s) (any_passes q ss) (any_weaker p q f ss e)) (or_cases (p s) (any_passes p ss) h)
 
 -- where no set passes, each fails the test
-pub none_pass : (p : ℕ → Bool) (ss : List ℕ) → anyPasses p ss ≡ false → allPass (λ s. not (p s)) ss ≡ true
+pub none_pass : (p : ℕ → Bool) (ss : List ℕ) → any_passes p ss ≡ false → all_pass (λ s. not (p s)) ss ≡ true
 none_pass p [] h = refl
-none_pass p (s ∷ ss) h = let k = or_parts (p s) (anyPasses p ss) h in and_from _ _ (not_from_false (p s) k.0) (none_pass p ss k.1)
+none_pass p (s ∷ ss) h = let k = or_parts (p s) (any_passes p ss) h in and_from _ _ (not_from_false (p s) k.0) (none_pass p ss k.1)

@@ -1,7 +1,7 @@
 // What everything above asks of a rule: whether a set of boards is strong, and whether it is ample.
 ghost use Rattle.std.specs.Prelude.{◌≡◌};
-ghost use Rattle.quorum.specs.Facts.{Strong-sets-hold, Ample-sets-share};
-ghost use Rattle.quorum.specs.Rules.{strong as isStrong, ample as isAmple};
+ghost use Rattle.quorum.specs.Facts.{StrongSetsHold, AmpleSetsShare};
+ghost use Rattle.quorum.specs.Rules.{strong as is_strong, ample as is_ample};
 
 use crate::limits::MAX_CREW;
 use crate::rule::FailureRule;
@@ -9,16 +9,16 @@ use crate::set::outside;
 
 // Whether, whatever fails together, some board of the set does not.
 pub fn strong<R: FailureRule>(rule: &R, set: u16) -> bool
-    ensures value { result ≡ isStrong (R.meaning rule.now) set }
-    ensures facts { Strong-sets-hold (R.meaning rule.now) }
+    ensures value { result ≡ is_strong (R.meaning rule.now) set }
+    ensures facts { StrongSetsHold (R.meaning rule.now) }
 {
     !rule.may_fail(set)
 }
 
 // Whether all the boards outside the set may fail together, so that nobody need wait for more.
 pub fn ample<R: FailureRule>(rule: &R, set: u16) -> bool
-    ensures value { result ≡ isAmple (R.meaning rule.now) set }
-    ensures facts { Ample-sets-share (R.meaning rule.now) }
+    ensures value { result ≡ is_ample (R.meaning rule.now) set }
+    ensures facts { AmpleSetsShare (R.meaning rule.now) }
 {
     let crew = rule.crew();
     if crew > MAX_CREW {

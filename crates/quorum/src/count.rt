@@ -1,8 +1,8 @@
 // The count rule: any f boards of the crew may fail together.
 ghost use Rattle.std.specs.Prelude.{◌≡◌, false, is_some};
-ghost use Rattle.quorum.specs.Counting.{count-rule};
-ghost use Rattle.quorum.specs.Faults.{count-fault, Made};
-ghost use Rattle.quorum.specs.Good.{count-good};
+ghost use Rattle.quorum.specs.Counting.{count_rule};
+ghost use Rattle.quorum.specs.Faults.{count_fault, Made};
+ghost use Rattle.quorum.specs.Good.{count_good};
 
 use crate::fault::{RuleFault, size_fault};
 use crate::rule::FailureRule;
@@ -13,12 +13,12 @@ pub struct CountRule {
     crew: u8,
     cover: u8,
     f: u16,
-    ghost good: { is_some (count-fault crew cover f) ≡ false },
+    ghost good: { is_some (count_fault crew cover f) ≡ false },
 }
 
 // What stands against a count rule of these numbers, the lowest number first, if anything does.
 pub fn count_fault(crew: u16, cover: u16, f: u16) -> Option<RuleFault>
-    ensures { result ≡ count-fault crew cover f }
+    ensures { result ≡ count_fault crew cover f }
 {
     if let Some(fault) = size_fault(crew, cover) {
         return Some(fault);
@@ -31,7 +31,7 @@ pub fn count_fault(crew: u16, cover: u16, f: u16) -> Option<RuleFault>
 
 impl CountRule {
     pub fn new(crew: u16, cover: u16, f: u16) -> Result<CountRule, RuleFault>
-        ensures { Made (count-fault crew cover f) (count-rule crew cover f) (λ x. count-rule x.crew x.cover x.f) result }
+        ensures { Made (count_fault crew cover f) (count_rule crew cover f) (λ x. count_rule x.crew x.cover x.f) result }
     {
         match count_fault(crew, cover, f) {
             Some(fault) => Err(fault),
@@ -45,9 +45,9 @@ impl CountRule {
 }
 
 impl FailureRule for CountRule {
-    ghost meaning = { λ x. count-rule x.crew x.cover x.f };
+    ghost meaning = { λ x. count_rule x.crew x.cover x.f };
 
-    ghost lawful = { λ x. count-good x.crew x.cover x.f x.good };
+    ghost lawful = { λ x. count_good x.crew x.cover x.f x.good };
 
     fn crew(&self) -> u8 {
         self.crew

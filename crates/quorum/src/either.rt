@@ -1,11 +1,11 @@
 // A rule of either kind, for who must choose the kind at run time.
 ghost use Rattle.std.specs.Prelude.{◌≡◌, take};
-ghost use Rattle.quorum.specs.Counting.{count-rule};
-ghost use Rattle.quorum.specs.Faults.{count-fault, listed-fault, Made};
-ghost use Rattle.quorum.specs.Listing.{listed-rule};
-ghost use Rattle.quorum.specs.Meaning.{either-rule};
+ghost use Rattle.quorum.specs.Counting.{count_rule};
+ghost use Rattle.quorum.specs.Faults.{count_fault, listed_fault, Made};
+ghost use Rattle.quorum.specs.Listing.{listed_rule};
+ghost use Rattle.quorum.specs.Meaning.{either_rule};
 ghost use Rattle.quorum.specs.declared.either.EitherRule.TheVariants.{Count, Listed};
-ghost use Rattle.quorum.specs.Good.{count-good, listed-good};
+ghost use Rattle.quorum.specs.Good.{count_good, listed_good};
 
 use crate::count::CountRule;
 use crate::fault::RuleFault;
@@ -20,7 +20,7 @@ pub enum EitherRule {
 
 impl EitherRule {
     pub fn count(crew: u16, cover: u16, f: u16) -> Result<EitherRule, RuleFault>
-        ensures { Made (count-fault crew cover f) (count-rule crew cover f) either-rule result }
+        ensures { Made (count_fault crew cover f) (count_rule crew cover f) either_rule result }
     {
         match CountRule::new(crew, cover, f) {
             Ok(rule) => Ok(EitherRule::Count(rule)),
@@ -29,7 +29,7 @@ impl EitherRule {
     }
 
     pub fn listed(crew: u16, cover: u16, sets: &[u16]) -> Result<EitherRule, RuleFault>
-        ensures { Made (listed-fault crew cover sets.now) (listed-rule crew cover sets.now) either-rule result }
+        ensures { Made (listed_fault crew cover sets.now) (listed_rule crew cover sets.now) either_rule result }
     {
         match ListedRule::new(crew, cover, sets) {
             Ok(rule) => Ok(EitherRule::Listed(rule)),
@@ -39,11 +39,11 @@ impl EitherRule {
 }
 
 impl FailureRule for EitherRule {
-    ghost meaning = { either-rule };
+    ghost meaning = { either_rule };
 
     ghost lawful = { elim [
-      | Count x ↦ count-good x.crew x.cover x.f x.good
-      | Listed x ↦ listed-good x.crew x.cover (take x.many x.sets) x.good
+      | Count x ↦ count_good x.crew x.cover x.f x.good
+      | Listed x ↦ listed_good x.crew x.cover (take x.many x.sets) x.good
     ] };
 
     fn crew(&self) -> u8 {

@@ -1,7 +1,7 @@
 // Why a rule cannot be made.
 ghost use Rattle.std.specs.Prelude.{◌≡◌, None};
-ghost use Rattle.quorum.specs.Asked.{Marked-cases};
-ghost use Rattle.quorum.specs.Faults.{number_of, refusal-of, size-fault};
+ghost use Rattle.quorum.specs.Asked.{MarkedCases};
+ghost use Rattle.quorum.specs.Faults.{number_of, refusal_of, size_fault};
 
 use crate::limits::{MAX_COVER, MAX_CREW, MIN_COVER};
 use refusal::Refusal;
@@ -22,7 +22,7 @@ pub enum RuleFault {
 impl RuleFault {
     pub fn number(self) -> u8
         ensures value { result ≡ number_of self }
-        ensures marked { Marked-cases }
+        ensures marked { MarkedCases }
     {
         match self {
             RuleFault::Crew => 1,
@@ -34,7 +34,7 @@ impl RuleFault {
 
     // What is told of the fault; the layer follows from the number.
     pub fn refusal(self) -> Refusal
-        ensures { result ≡ refusal-of self }
+        ensures { result ≡ refusal_of self }
     {
         Refusal {
             number: self.number(),
@@ -46,7 +46,7 @@ impl RuleFault {
 
 // What stands against a crew of this size and this cover, whatever the kind of the rule, if anything does.
 pub fn size_fault(crew: u16, cover: u16) -> Option<RuleFault>
-    ensures { result ≡ size-fault crew cover None }
+    ensures { result ≡ size_fault crew cover None }
 {
     if crew < 1 || crew > MAX_CREW as u16 {
         return Some(RuleFault::Crew);

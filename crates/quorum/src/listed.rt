@@ -1,10 +1,10 @@
 // The listed rule: the boards of one listed set may fail together.
 ghost use Rattle.std.specs.Prelude.{◌≡◌, ◌≤◌, false, length, take, is_some};
-ghost use Rattle.quorum.specs.Limits.{max-crew, max-listed};
-ghost use Rattle.quorum.specs.Sets.{part, anyPasses};
-ghost use Rattle.quorum.specs.Listing.{sets-fit, held, listed-rule, Held-means-it};
-ghost use Rattle.quorum.specs.Faults.{listed-fault, Made};
-ghost use Rattle.quorum.specs.Good.{listed-good};
+ghost use Rattle.quorum.specs.Limits.{max_crew, max_listed};
+ghost use Rattle.quorum.specs.Sets.{part, any_passes};
+ghost use Rattle.quorum.specs.Listing.{sets_fit, held, listed_rule, HeldMeansIt};
+ghost use Rattle.quorum.specs.Faults.{listed_fault, Made};
+ghost use Rattle.quorum.specs.Good.{listed_good};
 
 use crate::fault::{RuleFault, size_fault};
 use crate::limits::MAX_LISTED;
@@ -18,14 +18,14 @@ pub struct ListedRule {
     cover: u8,
     many: usize,
     sets: [u16; MAX_LISTED],
-    ghost placed: { many ≤ max-listed },
-    ghost good: { is_some (listed-fault crew cover (take many sets)) ≡ false },
+    ghost placed: { many ≤ max_listed },
+    ghost good: { is_some (listed_fault crew cover (take many sets)) ≡ false },
 }
 
 // Whether the listed sets are not too many, and none has a board outside the crew.
 fn sets_fit(crew: u8, sets: &[u16]) -> bool
-    requires { crew ≤ max-crew }
-    ensures { result ≡ sets-fit crew sets.now }
+    requires { crew ≤ max_crew }
+    ensures { result ≡ sets_fit crew sets.now }
 {
     if sets.len() > MAX_LISTED {
         return false;
@@ -40,7 +40,7 @@ fn sets_fit(crew: u8, sets: &[u16]) -> bool
 
 // Whether the boards of `have` and of at most `more` of the sets are the whole crew.
 fn hold_all(crew: u8, sets: &[u16], more: u8, have: u16) -> bool
-    requires { crew ≤ max-crew }
+    requires { crew ≤ max_crew }
     ensures { result ≡ held crew sets.now more have }
 {
     if outside(crew, have) == 0 {
@@ -59,7 +59,7 @@ fn hold_all(crew: u8, sets: &[u16], more: u8, have: u16) -> bool
 
 // Whether the set is a part of one of the sets.
 fn in_one(sets: &[u16], set: u16) -> bool
-    ensures { result ≡ anyPasses (part set) sets.now }
+    ensures { result ≡ any_passes (part set) sets.now }
 {
     for large in sets {
         if set | *large == *large {
@@ -72,8 +72,8 @@ fn in_one(sets: &[u16], set: u16) -> bool
 // What stands against a listed rule of these numbers and sets, the lowest number first, if anything does.
 #[tactic(auto, using(crate::proofs::Holders::held_means_it))]
 pub fn listed_fault(crew: u16, cover: u16, sets: &[u16]) -> Option<RuleFault>
-    ensures value { result ≡ listed-fault crew cover sets.now }
-    ensures a_crew_that_is_not_spared_is_held_by_listed_sets { Held-means-it crew sets.now cover }
+    ensures value { result ≡ listed_fault crew cover sets.now }
+    ensures a_crew_that_is_not_spared_is_held_by_listed_sets { HeldMeansIt crew sets.now cover }
 {
     if let Some(fault) = size_fault(crew, cover) {
         return Some(fault);
@@ -90,7 +90,7 @@ pub fn listed_fault(crew: u16, cover: u16, sets: &[u16]) -> Option<RuleFault>
 
 // The sets at the front of as many places as a rule has.
 fn placed(sets: &[u16]) -> [u16; MAX_LISTED]
-    requires { length sets.now ≤ max-listed }
+    requires { length sets.now ≤ max_listed }
     ensures { take (length sets.now) result ≡ sets.now }
 {
     let mut places = [0; MAX_LISTED];
@@ -102,7 +102,7 @@ fn placed(sets: &[u16]) -> [u16; MAX_LISTED]
 
 impl ListedRule {
     pub fn new(crew: u16, cover: u16, sets: &[u16]) -> Result<ListedRule, RuleFault>
-        ensures { Made (listed-fault crew cover sets.now) (listed-rule crew cover sets.now) (λ x. listed-rule x.crew x.cover (take x.many x.sets)) result }
+        ensures { Made (listed_fault crew cover sets.now) (listed_rule crew cover sets.now) (λ x. listed_rule x.crew x.cover (take x.many x.sets)) result }
     {
         match listed_fault(crew, cover, sets) {
             Some(fault) => Err(fault),
@@ -117,9 +117,9 @@ impl ListedRule {
 }
 
 impl FailureRule for ListedRule {
-    ghost meaning = { λ x. listed-rule x.crew x.cover (take x.many x.sets) };
+    ghost meaning = { λ x. listed_rule x.crew x.cover (take x.many x.sets) };
 
-    ghost lawful = { λ x. listed-good x.crew x.cover (take x.many x.sets) x.good };
+    ghost lawful = { λ x. listed_good x.crew x.cover (take x.many x.sets) x.good };
 
     fn crew(&self) -> u8 {
         self.crew

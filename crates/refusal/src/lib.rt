@@ -4,7 +4,7 @@
 #![tactic(auto)]
 
 ghost use Rattle.std.specs.Prelude.{◌≡◌};
-ghost use Rattle.refusal.specs.Layers.{layer-of};
+ghost use Rattle.refusal.specs.Layers.{layer_of};
 
 // Who refuses: the frame as it is read or written, one board, or the group of all boards.
 #[derive(Clone, Copy, PartialEq, Eq, Debug)]
@@ -24,7 +24,7 @@ pub struct Refusal {
 
 impl Refusal {
     pub fn layer(&self) -> Layer
-        ensures { result ≡ layer-of self.now.number }
+        ensures { result ≡ layer_of self.now.number }
     {
         match self.number {
             11..=15 | 20 => Layer::Frame,

@@ -13,19 +13,19 @@ abbrev pub judged : Rule → Option ℕ → Answer
 judged R None = Unread
 judged R (Some s) = Judged s (strong R s) (ample R s)
 
-abbrev pub answer-of : Rule → List ℕ → Answer
-answer-of R line = judged R (number_in line)
+abbrev pub answer_of : Rule → List ℕ → Answer
+answer_of R line = judged R (number_in line)
 
 -- a word where it holds, else a dash
-abbrev pub word-if : Bool → List ℕ → List ℕ
-word-if holds name = cond holds name (codes "-")
+abbrev pub word_if : Bool → List ℕ → List ℕ
+word_if holds name = cond holds name (codes "-")
 
 -- what is printed of the answers
-abbrev pub answer-line : Answer → List ℕ
-answer-line (Judged s p q) = decimal s ++ (codes "," ++ (word-if p (codes "strong") ++ (codes "," ++ word-if q (codes "ample"))))
-answer-line Unread = codes "unreadable"
+abbrev pub answer_line : Answer → List ℕ
+answer_line (Judged s p q) = decimal s ++ (codes "," ++ (word_if p (codes "strong") ++ (codes "," ++ word_if q (codes "ample"))))
+answer_line Unread = codes "unreadable"
 
-abbrev pub reply-line : Reply → List ℕ
-reply-line (Good x) = codes "good"
-reply-line (Refused e) = codes "refused " ++ decimal (number_of e)
-reply-line Unreadable = codes "unreadable"
+abbrev pub reply_line : Reply → List ℕ
+reply_line (Good x) = codes "good"
+reply_line (Refused e) = codes "refused " ++ decimal (number_of e)
+reply_line Unreadable = codes "unreadable"

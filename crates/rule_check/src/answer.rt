@@ -1,7 +1,7 @@
 // What is answered to a line that gives a set.
 ghost use Rattle.std.specs.Prelude.{◌≡◌, Some};
-ghost use Rattle.quorum.specs.Meaning.{either-rule};
-ghost use Rattle.rule_check.specs.Answers.{answer-line, answer-of, word-if};
+ghost use Rattle.quorum.specs.Meaning.{either_rule};
+ghost use Rattle.rule_check.specs.Answers.{answer_line, answer_of, word_if};
 
 use crate::number::number;
 use quorum::{EitherRule, ample, strong};
@@ -16,7 +16,7 @@ pub enum Answer {
 }
 
 pub fn answer_to(rule: &EitherRule, line: &[u8]) -> Answer
-    ensures { result ≡ answer-of (either-rule rule.now) line.now }
+    ensures { result ≡ answer_of (either_rule rule.now) line.now }
 {
     match number(line) {
         None => Answer::Unread,
@@ -26,13 +26,13 @@ pub fn answer_to(rule: &EitherRule, line: &[u8]) -> Answer
 
 // The word where it holds, else a dash.
 fn word(holds: bool, name: &'static str) -> &'static str
-    ensures { result.now ≡ word-if holds name.now }
+    ensures { result.now ≡ word_if holds name.now }
 {
     if holds { name } else { "-" }
 }
 
 impl fmt::Display for Answer {
-    ghost output = { λ a. Some (answer-line a) };
+    ghost output = { λ a. Some (answer_line a) };
 
     fn fmt<W: fmt::Write>(&self, f: &mut fmt::Formatter<W>) -> fmt::Result {
         match *self {

@@ -1,7 +1,7 @@
 // What is answered to the first line, which asks for a rule.
 ghost use Rattle.std.specs.Prelude.{◌≡◌, IfOk, Some};
-ghost use Rattle.rule_check.specs.Answers.{reply-line};
-ghost use Rattle.rule_check.specs.Lines.{asked_by, asked_in, count-asked, listed-asked};
+ghost use Rattle.rule_check.specs.Answers.{reply_line};
+ghost use Rattle.rule_check.specs.Lines.{asked_by, asked_in, count_asked, listed_asked};
 ghost use Rattle.rule_check.specs.Replies.{Replies};
 
 use crate::number::numbers;
@@ -17,7 +17,7 @@ pub enum Reply {
 }
 
 fn count_reply(numbers: &[u16]) -> Reply
-    ensures { Replies (count-asked numbers.now) result }
+    ensures { Replies (count_asked numbers.now) result }
 {
     if numbers.len() != 3 {
         return Reply::Unreadable;
@@ -29,7 +29,7 @@ fn count_reply(numbers: &[u16]) -> Reply
 }
 
 fn listed_reply(numbers: &[u16]) -> Reply
-    ensures { Replies (listed-asked numbers.now) result }
+    ensures { Replies (listed_asked numbers.now) result }
 {
     if numbers.len() < 3 {
         return Reply::Unreadable;
@@ -71,7 +71,7 @@ pub fn read_rule(heap: Global, line: &[u8]) -> Result<Reply, AllocError>
 }
 
 impl fmt::Display for Reply {
-    ghost output = { λ r. Some (reply-line r) };
+    ghost output = { λ r. Some (reply_line r) };
 
     fn fmt<W: fmt::Write>(&self, f: &mut fmt::Formatter<W>) -> fmt::Result {
         match self {

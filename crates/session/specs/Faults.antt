@@ -7,7 +7,7 @@ use Rattle.session.specs.declared.fault.SessionFault.{SessionFault}
 use Rattle.session.specs.declared.fault.SessionFault.TheVariants.{Unreadable, Rule, Group}
 
 -- every case; the layer follows from the number
-abbrev pub refusal-of : SessionFault → Refusal
-refusal-of Unreadable = told 29
-refusal-of (Rule e) = quorum.refusal-of e
-refusal-of (Group e) = group.refusal-of e
+abbrev pub refusal_of : SessionFault → Refusal
+refusal_of Unreadable = told 29
+refusal_of (Rule e) = quorum.refusal_of e
+refusal_of (Group e) = group.refusal_of e

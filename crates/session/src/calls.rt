@@ -1,9 +1,9 @@
 // The calls on the group that is open, if one is.
 ghost use Rattle.std.specs.Prelude.{◌≡◌, length};
-ghost use Rattle.lines.specs.Calls.{opens, starts-board, carries, forges};
-ghost use Rattle.lines.specs.Told.{opening_of, starts-of};
+ghost use Rattle.lines.specs.Calls.{opens, starts_board, carries, forges};
+ghost use Rattle.lines.specs.Told.{opening_of, starts_of};
 ghost use Rattle.group.specs.Calls.{starting, carrying, forging};
-ghost use Rattle.session.specs.Shown.{Calls, Plays-call};
+ghost use Rattle.session.specs.Shown.{Calls, PlaysCall};
 
 use crate::fault::SessionFault;
 use crate::opened::opened;
@@ -29,7 +29,7 @@ pub(crate) fn start(
     group: &mut Option<Group<EitherRule>>,
     board: u16,
 ) -> Result<Played, SessionFault>
-    ensures { Plays-call group.old (starts-board board) group.new result }
+    ensures { PlaysCall group.old (starts_board board) group.new result }
 {
     match group {
         None => Err(NO_GROUP),
@@ -61,7 +61,7 @@ pub(crate) fn carry(
     kind: u16,
     value: u16,
 ) -> Result<Played, SessionFault>
-    ensures { Plays-call group.old (carries to from kind value) group.new result }
+    ensures { PlaysCall group.old (carries to from kind value) group.new result }
 {
     match group {
         None => Err(NO_GROUP),
@@ -91,7 +91,7 @@ pub(crate) fn forge(
     from: u16,
     bytes: &[u8],
 ) -> Result<Played, SessionFault>
-    ensures { Plays-call group.old (forges to from bytes.now) group.new result }
+    ensures { PlaysCall group.old (forges to from bytes.now) group.new result }
 {
     match group {
         None => Err(NO_GROUP),
@@ -104,8 +104,8 @@ pub(crate) fn open(
     group: &mut Option<Group<EitherRule>>,
     plan: &Plan,
 ) -> Result<Played, SessionFault>
-    requires { length (starts-of plan.now) ≡ plan.now.crew }
-    ensures { Plays-call group.old (opens (opening_of plan.now)) group.new result }
+    requires { length (starts_of plan.now) ≡ plan.now.crew }
+    ensures { PlaysCall group.old (opens (opening_of plan.now)) group.new result }
 {
     let fresh = opened(plan)?;
     *group = Some(fresh);

@@ -1,6 +1,6 @@
 // Why a line of a session is refused.
 ghost use Rattle.std.specs.Prelude.{◌≡◌};
-ghost use Rattle.session.specs.Faults.{refusal-of};
+ghost use Rattle.session.specs.Faults.{refusal_of};
 ghost use Rattle.session.specs.declared.fault.SessionFault.TheVariants.{Rule, Group};
 
 use group::GroupFault;
@@ -20,7 +20,7 @@ pub enum SessionFault {
 impl SessionFault {
     // What is told of the fault.
     pub fn refusal(&self) -> Refusal
-        ensures { result ≡ refusal-of self.now }
+        ensures { result ≡ refusal_of self.now }
     {
         match *self {
             SessionFault::Unreadable => Refusal {

@@ -1,6 +1,6 @@
 // The bytes of a line as they come in, with room for one more than a line can have, which is enough to see that a longer one cannot be read.
 ghost use Rattle.std.specs.Prelude.{◌≡◌, ◌≤◌, [], ◌∷◌, ◌++◌, ◌==◌, length, take};
-ghost use Rattle.session.specs.Gathering.{Reads-the-same};
+ghost use Rattle.session.specs.Gathering.{ReadsTheSame};
 
 pub const ROOM: usize = 122;
 
@@ -37,7 +37,7 @@ impl Gathered {
     // The line, or the front of a longer one.
     pub fn line(&self) -> &[u8]
         ensures line { result.now ≡ take self.now.many self.now.bytes }
-        ensures a_line_cut_at_the_room_reads_the_same { Reads-the-same }
+        ensures a_line_cut_at_the_room_reads_the_same { ReadsTheSame }
     {
         &self.bytes[0..self.many]
     }

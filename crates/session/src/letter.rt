@@ -1,7 +1,7 @@
 // The letter by which an answer tells its line.
 ghost use Rattle.std.specs.Prelude.{◌≡◌, ℕ, List, Some};
-ghost use Rattle.lines.specs.Told.{failing-by};
-ghost use Rattle.session.specs.Letters.{opening-letter, letter-text};
+ghost use Rattle.lines.specs.Told.{failing_by};
+ghost use Rattle.session.specs.Letters.{opening_letter, letter_text};
 
 use lines::By;
 use std::fmt;
@@ -18,7 +18,7 @@ pub enum Letter {
 }
 
 pub(crate) fn opening_letter(by: By) -> Letter
-    ensures { (vs : List ℕ) → result ≡ opening-letter (failing-by by vs) }
+    ensures { (vs : List ℕ) → result ≡ opening_letter (failing_by by vs) }
 {
     match by {
         By::Count(_) => Letter::OpenByCount,
@@ -27,7 +27,7 @@ pub(crate) fn opening_letter(by: By) -> Letter
 }
 
 impl fmt::Display for Letter {
-    ghost output = { λ l. Some (letter-text l) };
+    ghost output = { λ l. Some (letter_text l) };
 
     fn fmt<W: fmt::Write>(&self, f: &mut fmt::Formatter<W>) -> fmt::Result {
         match *self {

@@ -1,6 +1,6 @@
 // A line opens a group, or what stands against it is told, by rising number across rule and group.
 ghost use Rattle.std.specs.Prelude.{◌≡◌, length};
-ghost use Rattle.lines.specs.Told.{opening_of, starts-of};
+ghost use Rattle.lines.specs.Told.{opening_of, starts_of};
 ghost use Rattle.session.specs.Shown.{Opens};
 
 use crate::fault::SessionFault;
@@ -10,7 +10,7 @@ use lines::Plan;
 use quorum::EitherRule;
 
 pub(crate) fn opened(plan: &Plan) -> Result<Group<EitherRule>, SessionFault>
-    requires { length (starts-of plan.now) ≡ plan.now.crew }
+    requires { length (starts_of plan.now) ≡ plan.now.crew }
     ensures { Opens (opening_of plan.now) result }
 {
     if let Some(fault) = sizes_fault(plan) {

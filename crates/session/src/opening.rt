@@ -1,10 +1,10 @@
 // What a line asks a group for.
 ghost use Rattle.std.specs.Prelude.{◌≡◌, ◌≤◌, length, take};
-ghost use Rattle.lines.specs.Told.{opening_of, starts-of};
+ghost use Rattle.lines.specs.Told.{opening_of, starts_of};
 ghost use Rattle.quorum.specs.Faults.{Made};
-ghost use Rattle.quorum.specs.Meaning.{either-rule};
-ghost use Rattle.session.specs.Opening.{cover-of, rule-of};
-ghost use Rattle.session.specs.Asked.{rule-fault, sizes-fault, Asks};
+ghost use Rattle.quorum.specs.Meaning.{either_rule};
+ghost use Rattle.session.specs.Opening.{cover_of, rule_of};
+ghost use Rattle.session.specs.Asked.{rule_fault, sizes_fault, Asks};
 
 use crate::fault::SessionFault;
 use board::BoardFault;
@@ -16,7 +16,7 @@ use vote::Method;
 const BOARDS: usize = 16;
 
 fn cover(method: Method) -> u16
-    ensures { result ≡ cover-of method }
+    ensures { result ≡ cover_of method }
 {
     match method {
         Method::Plain => 2,
@@ -26,7 +26,7 @@ fn cover(method: Method) -> u16
 
 // The rule that the line asks for, or what stands against it.
 pub(crate) fn rule(plan: &Plan) -> Result<EitherRule, RuleFault>
-    ensures { Made (rule-fault (opening_of plan.now)) (rule-of (opening_of plan.now)) either-rule result }
+    ensures { Made (rule_fault (opening_of plan.now)) (rule_of (opening_of plan.now)) either_rule result }
 {
     let cover = cover(plan.method);
     match plan.by {
@@ -37,7 +37,7 @@ pub(crate) fn rule(plan: &Plan) -> Result<EitherRule, RuleFault>
 
 // What stands against the sizes: crew, characters, depth.
 pub(crate) fn sizes_fault(plan: &Plan) -> Option<SessionFault>
-    ensures { result ≡ sizes-fault (opening_of plan.now) }
+    ensures { result ≡ sizes_fault (opening_of plan.now) }
 {
     if plan.crew < 1 || plan.crew > 16 {
         return Some(SessionFault::Rule(RuleFault::Crew));
@@ -65,7 +65,7 @@ fn starts(given: &[u16]) -> [u16; BOARDS]
 
 // The opening that the line asks for.
 pub(crate) fn asked(plan: &Plan) -> Opening
-    requires { length (starts-of plan.now) ≤ 16 }
+    requires { length (starts_of plan.now) ≤ 16 }
     ensures { Asks (opening_of plan.now) result }
 {
     Opening {

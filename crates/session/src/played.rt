@@ -1,5 +1,5 @@
 // A line is read, and its call made.
-ghost use Rattle.session.specs.Shown.{Plays-line};
+ghost use Rattle.session.specs.Shown.{PlaysLine};
 
 use crate::calls::{carry, forge, open, start};
 use crate::fault::SessionFault;
@@ -10,7 +10,7 @@ use lines::{Line, read_line};
 use quorum::EitherRule;
 
 pub(crate) fn play(group: &mut Option<Group<EitherRule>>, line: &[u8]) -> Reply
-    ensures { Plays-line group.old line.now group.new result }
+    ensures { PlaysLine group.old line.now group.new result }
 {
     match read_line(line) {
         Line::Unreadable => Reply {

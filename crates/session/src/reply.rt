@@ -1,6 +1,6 @@
 // What a line is answered, and how the answer is written.
 ghost use Rattle.std.specs.Prelude.{Some};
-ghost use Rattle.session.specs.Texts.{reply-text};
+ghost use Rattle.session.specs.Texts.{reply_text};
 
 use crate::fault::SessionFault;
 use crate::letter::Letter;
@@ -21,7 +21,7 @@ pub struct Reply {
 }
 
 impl fmt::Display for Reply {
-    ghost output = { λ r. Some (reply-text r) };
+    ghost output = { λ r. Some (reply_text r) };
 
     fn fmt<W: fmt::Write>(&self, f: &mut fmt::Formatter<W>) -> fmt::Result {
         let letter = self.letter;

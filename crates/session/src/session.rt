@@ -1,6 +1,6 @@
 // The lines of a session, one after the other.
 ghost use Rattle.std.specs.Prelude.{[]};
-ghost use Rattle.session.specs.Shown.{Led-by, Led, Plays-line, Keeps-the-promise};
+ghost use Rattle.session.specs.Shown.{LedBy, Led, PlaysLine, KeepsThePromise};
 
 use crate::played::play;
 use crate::reply::Reply;
@@ -17,15 +17,15 @@ pub struct Session {
 impl Session {
     // Before the first line nothing is open.
     pub fn new() -> Session
-        ensures { Led-by result.group [] }
+        ensures { LedBy result.group [] }
     {
         Session { group: None }
     }
 
     // Plays a line, with its line feed.
     pub fn play(&mut self, line: &[u8]) -> Reply
-        ensures plays { Plays-line self.old.group line.now self.new.group result }
-        ensures keeps { Keeps-the-promise self.new.group }
+        ensures plays { PlaysLine self.old.group line.now self.new.group result }
+        ensures keeps { KeepsThePromise self.new.group }
     {
         play(&mut self.group, line)
     }

@@ -1,64 +1,64 @@
 -- The least number below a bound that passes a test: what it is, and the steps of a loop that looks for it. Assumes nothing.
 use Rattle.std.proofs.Common.{◌≡◌, ℕ, zero, suc, ◌+◌, ◌<◌, ◌≤◌, Bool, true, false, not, ◌&&◌, eqb, leb, Some, None, Option, sym, refl, ap, ◌∙◌, ap₂, ⊎_elim, le_of_suc-le-suc, not-suc-le-zero, eq-or-lt_of_le, add-one, arith}
 use Rattle.std.proofs.lemmas.Bool.{ne_eqb, eqb-false, le-leb, leb-true, cases_eq, cases_Bool, and_parts, and_from, not-true, not_from_false}
-use Rattle.quorum.specs.Sets.{member, setOf}
-use Rattle.quorum.specs.Truth.{clash, same_truth, false-since, false-unless}
-use Rattle.quorum.specs.Members.{member-setOf, member-none}
-use Rattle.quorum.proofs.Masks.{setOf-ext, setOf-is}
-use Rattle.vote.specs.Search.{or_else, when, given, seek, all-below}
-use Rattle.vote.proofs.Options.{given-found, holds-one, holds-none, else-cases, else-left, else-right, else-keeps, when-found, when-from}
+use Rattle.quorum.specs.Sets.{member, set_of}
+use Rattle.quorum.specs.Truth.{clash, same_truth, false_since, false_unless}
+use Rattle.quorum.specs.Members.{member_set_of, member_none}
+use Rattle.quorum.proofs.Masks.{set_of_ext, set_of_is}
+use Rattle.vote.specs.Search.{or_else, when, given, seek, all_below}
+use Rattle.vote.proofs.Options.{given_found, holds_one, holds_none, else_cases, else_left, else_right, else_keeps, when_found, when_from}
 
 -- ---- what is found
 pub seek_found : (n : ℕ) (p : ℕ → Bool) (v : ℕ) → seek n p ≡ Some v → (v < n) × (p v ≡ true)
 unfolding seek
-seek_found zero p v h = holds-none h
+seek_found zero p v h = holds_none h
 seek_found (suc n) p v h =
     ⊎_elim (λ e. let k = seek_found n p v e in (omega (arith, k.0), k.1))
-    (λ e. let k = when-found (p n) n v e in (omega (arith, k.1), rw k.1 k.0))
-    (else-cases (seek n p) (when (p n) n) v h)
+    (λ e. let k = when_found (p n) n v e in (omega (arith, k.1), rw k.1 k.0))
+    (else_cases (seek n p) (when (p n) n) v h)
 
-pub seek-from : (n : ℕ) (p : ℕ → Bool) (v : ℕ) → v < n → p v ≡ true → given (seek n p) ≡ true
+pub seek_from : (n : ℕ) (p : ℕ → Bool) (v : ℕ) → v < n → p v ≡ true → given (seek n p) ≡ true
 unfolding seek
-seek-from zero p v h q = absurd (not-suc-le-zero h)
-seek-from (suc n) p v h q =
-    ⊎_elim (λ (e : v ≡ n). else-right (seek n p) (when (p n) n) (when-from (p n) n (rw e at q)))
-    (λ (e : v < n). else-left (seek n p) (when (p n) n) (seek-from n p v e q))
+seek_from zero p v h q = absurd (not-suc-le-zero h)
+seek_from (suc n) p v h q =
+    ⊎_elim (λ (e : v ≡ n). else_right (seek n p) (when (p n) n) (when_from (p n) n (rw e at q)))
+    (λ (e : v < n). else_left (seek n p) (when (p n) n) (seek_from n p v e q))
     (eq-or-lt_of_le (le_of_suc-le-suc h))
 
-pub seek-least : (n : ℕ) (p : ℕ → Bool) (u v : ℕ) → seek n p ≡ Some u → v < n → p v ≡ true → u ≤ v
+pub seek_least : (n : ℕ) (p : ℕ → Bool) (u v : ℕ) → seek n p ≡ Some u → v < n → p v ≡ true → u ≤ v
 unfolding seek
-seek-least zero p u v e h q = absurd (not-suc-le-zero h)
-seek-least (suc n) p u v e h q =
+seek_least zero p u v e h q = absurd (not-suc-le-zero h)
+seek_least (suc n) p u v e h q =
     ⊎_elim (λ (r : v ≡ n). let k = seek_found (suc n) p u e in omega (arith, k.0))
-    (λ (r : v < n). let g = given-found (seek n p) (seek-from n p v r q) in let i = seek-least n p g.0 v g.1 r q in let d = holds-one e (else-keeps _ g.1) in omega arith)
+    (λ (r : v < n). let g = given_found (seek n p) (seek_from n p v r q) in let i = seek_least n p g.0 v g.1 r q in let d = holds_one e (else_keeps _ g.1) in omega arith)
     (eq-or-lt_of_le (le_of_suc-le-suc h))
 
 -- tests that agree below the bound find the same
-pub seek-ext : (n : ℕ) (p q : ℕ → Bool) → ((v : ℕ) → v < n → p v ≡ q v) → seek n p ≡ seek n q
+pub seek_ext : (n : ℕ) (p q : ℕ → Bool) → ((v : ℕ) → v < n → p v ≡ q v) → seek n p ≡ seek n q
 unfolding seek
-seek-ext zero p q f = refl
-seek-ext (suc n) p q f = ap₂ (λ (a : Option ℕ) (b : Bool). or_else a (when b n)) (seek-ext n p q (λ v h. f v (omega arith))) (f n (omega arith))
+seek_ext zero p q f = refl
+seek_ext (suc n) p q f = ap₂ (λ (a : Option ℕ) (b : Bool). or_else a (when b n)) (seek_ext n p q (λ v h. f v (omega arith))) (f n (omega arith))
 
 -- ---- all below a bound pass
-pub all_found : (n : ℕ) (p : ℕ → Bool) → all-below n p ≡ true → (i : ℕ) → i < n → p i ≡ true
+pub all_found : (n : ℕ) (p : ℕ → Bool) → all_below n p ≡ true → (i : ℕ) → i < n → p i ≡ true
 all_found n p h i l =
-    ⊎_elim (λ q. q) (λ q. clash (seek-from n (λ i. not (p i)) i l (not_from_false _ q)) (not-true (given (seek n (λ i. not (p i)))) h)) (cases_Bool (p i))
+    ⊎_elim (λ q. q) (λ q. clash (seek_from n (λ i. not (p i)) i l (not_from_false _ q)) (not-true (given (seek n (λ i. not (p i)))) h)) (cases_Bool (p i))
 
-pub all_from : (n : ℕ) (p : ℕ → Bool) → ((i : ℕ) → i < n → p i ≡ true) → all-below n p ≡ true
+pub all_from : (n : ℕ) (p : ℕ → Bool) → ((i : ℕ) → i < n → p i ≡ true) → all_below n p ≡ true
 all_from n p f =
     ⊎_elim
-    (λ e. let k = given-found (seek n (λ i. not (p i))) e in let m = seek_found n (λ i. not (p i)) k.0 k.1 in clash (f k.0 m.0) (not-true (p k.0) m.1))
+    (λ e. let k = given_found (seek n (λ i. not (p i))) e in let m = seek_found n (λ i. not (p i)) k.0 k.1 in clash (f k.0 m.0) (not-true (p k.0) m.1))
     (λ e. not_from_false _ e)
     (cases_Bool (given (seek n (λ i. not (p i)))))
 
 -- ---- a loop that looks from 0 up: its start, a turn that passes nothing, a turn that finds, its end over 0..k + 1
-pub seek-none : (p : ℕ → Bool) → seek 0 p ≡ None
+pub seek_none : (p : ℕ → Bool) → seek 0 p ≡ None
 unfolding seek
-seek-none p = refl
+seek_none p = refl
 
-pub seek-more : (n : ℕ) (p : ℕ → Bool) → seek n p ≡ None → p n ≡ false → seek (n + 1) p ≡ None
+pub seek_more : (n : ℕ) (p : ℕ → Bool) → seek n p ≡ None → p n ≡ false → seek (n + 1) p ≡ None
 unfolding seek
-seek-more n p a b = rw (add-one n, a, b)
+seek_more n p a b = rw (add-one n, a, b)
 
 here : (n : ℕ) (p : ℕ → Bool) → seek n p ≡ None → p n ≡ true → seek (suc n) p ≡ Some n
 unfolding seek
@@ -73,26 +73,26 @@ stays (suc n) m p a b l =
 pub seek_hit : (k m : ℕ) (p : ℕ → Bool) → seek m p ≡ None → p m ≡ true → m < k + 1 → Some m ≡ seek (suc k) p
 seek_hit k m p a b l = sym (stays (suc k) m p a b (omega arith))
 
-pub seek-over : (k m : ℕ) (p : ℕ → Bool) → seek m p ≡ None → k + 1 ≤ m → m ≤ k + 1 → None ≡ seek (suc k) p
-seek-over k m p a b l = let e : m ≡ suc k = omega arith in sym (rw e at a)
+pub seek_over : (k m : ℕ) (p : ℕ → Bool) → seek m p ≡ None → k + 1 ≤ m → m ≤ k + 1 → None ≡ seek (suc k) p
+seek_over k m p a b l = let e : m ≡ suc k = omega arith in sym (rw e at a)
 
 -- ---- a set that is not empty has a board
-pub setOf-none : (n : ℕ) → setOf n (λ i. false) ≡ 0
-setOf-none n = setOf-is n 0 (λ i. false) (λ i h. member-none i) (λ i h. member-none i)
+pub set_of_none : (n : ℕ) → set_of n (λ i. false) ≡ 0
+set_of_none n = set_of_is n 0 (λ i. false) (λ i h. member_none i) (λ i h. member_none i)
 
-pub some_in : (n : ℕ) (p : ℕ → Bool) → not (eqb (setOf n p) 0) ≡ given (seek n p)
+pub some_in : (n : ℕ) (p : ℕ → Bool) → not (eqb (set_of n p) 0) ≡ given (seek n p)
 some_in n p = ⊎_elim some none (cases_Bool (given (seek n p)))
   where
-    some : given (seek n p) ≡ true → not (eqb (setOf n p) 0) ≡ given (seek n p)
+    some : given (seek n p) ≡ true → not (eqb (set_of n p) 0) ≡ given (seek n p)
     some t =
-        let a = given-found _ t in
+        let a = given_found _ t in
         let b = seek_found n p a.0 a.1 in
-        ap not (ne_eqb (setOf n p) 0 (λ z. clash (sym (ap (member a.0) z) ∙ member-setOf n p a.0 b.0 ∙ b.1) (member-none a.0))) ∙ sym t
+        ap not (ne_eqb (set_of n p) 0 (λ z. clash (sym (ap (member a.0) z) ∙ member_set_of n p a.0 b.0 ∙ b.1) (member_none a.0))) ∙ sym t
 
-    none : given (seek n p) ≡ false → not (eqb (setOf n p) 0) ≡ given (seek n p)
-    none t = ap not (empty (setOf-ext n p (λ i. false) (λ i h. false-since (p i) _ (seek-from n p i h) t) ∙ setOf-none n)) ∙ sym t
+    none : given (seek n p) ≡ false → not (eqb (set_of n p) 0) ≡ given (seek n p)
+    none t = ap not (empty (set_of_ext n p (λ i. false) (λ i h. false_since (p i) _ (seek_from n p i h) t) ∙ set_of_none n)) ∙ sym t
       where
-        empty : setOf n p ≡ 0 → eqb (setOf n p) 0 ≡ true
+        empty : set_of n p ≡ 0 → eqb (set_of n p) 0 ≡ true
         empty z = rw z
 
 -- ---- two that pass, by the lowest of them
@@ -101,29 +101,29 @@ module _ (n : ℕ) (p : ℕ → Bool) where
   Both = given (seek n (λ u. p u && given (seek n (λ v. p v && not (eqb u v)))))
 
   pub two_none : seek n p ≡ None → false ≡ Both
-  two_none e = sym (false-unless Both (λ t. let a = given-found _ t in let b = seek_found n _ a.0 a.1 in clash (seek-from n p a.0 b.0 (and_parts (p a.0) _ b.1).0) (ap given e)))
+  two_none e = sym (false_unless Both (λ t. let a = given_found _ t in let b = seek_found n _ a.0 a.1 in clash (seek_from n p a.0 b.0 (and_parts (p a.0) _ b.1).0) (ap given e)))
 
-  pub two-some : (u : ℕ) → seek n p ≡ Some u → given (seek n (λ v. leb (u + 1) v && p v)) ≡ Both
-  two-some u e = same_truth _ _ into back
+  pub two_some : (u : ℕ) → seek n p ≡ Some u → given (seek n (λ v. leb (u + 1) v && p v)) ≡ Both
+  two_some u e = same_truth _ _ into back
     where
       into : given (seek n (λ v. leb (u + 1) v && p v)) ≡ true → Both ≡ true
       into t =
-          let a = given-found _ t in
+          let a = given_found _ t in
           let b = seek_found n _ a.0 a.1 in
           let k = and_parts (leb (u + 1) a.0) _ b.1 in
           let l = leb-true (u + 1) a.0 k.0 in
           let s = seek_found n p u e in
-          seek-from n _ u s.0 (and_from _ _ s.1 (seek-from n _ a.0 b.0 (and_from _ _ k.1 (not_from_false _ (ne_eqb u a.0 (omega arith))))))
+          seek_from n _ u s.0 (and_from _ _ s.1 (seek_from n _ a.0 b.0 (and_from _ _ k.1 (not_from_false _ (ne_eqb u a.0 (omega arith))))))
 
       above : (v : ℕ) → v < n → p v ≡ true → (v ≡ u → ⊥) → given (seek n (λ v. leb (u + 1) v && p v)) ≡ true
-      above v h q ne = let m = seek-least n p u v e h q in seek-from n _ v h (and_from _ _ (le-leb (u + 1) v (omega arith)) q)
+      above v h q ne = let m = seek_least n p u v e h q in seek_from n _ v h (and_from _ _ (le-leb (u + 1) v (omega arith)) q)
 
       back : Both ≡ true → given (seek n (λ v. leb (u + 1) v && p v)) ≡ true
       back t =
-          let a = given-found _ t in
+          let a = given_found _ t in
           let b = seek_found n _ a.0 a.1 in
           let k = and_parts (p a.0) _ b.1 in
-          let a' = given-found _ k.1 in
+          let a' = given_found _ k.1 in
           let b' = seek_found n _ a'.0 a'.1 in
           let k' = and_parts (p a'.0) _ b'.1 in
           let apart = eqb-false a.0 a'.0 (not-true (eqb a.0 a'.0) k'.1) in

@@ -4,18 +4,18 @@ use Rattle.vote.specs.declared.Vote.{Vote}
 use Rattle.vote.specs.Search.{or_else, when, given, is}
 
 -- the vote is of this kind and sender
-abbrev pub of-kind : ℕ → ℕ → Vote → Bool
-of-kind c i w = w.kind == c && w.sender == i
+abbrev pub of_kind : ℕ → ℕ → Vote → Bool
+of_kind c i w = w.kind == c && w.sender == i
 
 -- a vote of kind c with the value v has been counted of board i
 unfoldable pub counted : List Vote → ℕ → ℕ → ℕ → Bool
 counted [] c v i = false
-counted (w ∷ h) c v i = counted h c v i || (of-kind c i w && w.value == v)
+counted (w ∷ h) c v i = counted h c v i || (of_kind c i w && w.value == v)
 
 -- the value of the first vote of kind c counted of board i; for echoes this is the sender's opening
 unfoldable pub first : List Vote → ℕ → ℕ → Option ℕ
 first [] c i = None
-first (w ∷ h) c i = or_else (first h c i) (when (of-kind c i w) w.value)
+first (w ∷ h) c i = or_else (first h c i) (when (of_kind c i w) w.value)
 
 -- all that a method's tests look at: who has echoed what, and the first vote of each kind and sender
 pub record Seen : Type 0 where

@@ -16,5 +16,5 @@ seek (suc n) p = or_else (seek n p) (when (p n) n)
 abbrev pub some_below : ℕ → (ℕ → Bool) → Bool
 some_below n p = given (seek n p)
 
-abbrev pub all-below : ℕ → (ℕ → Bool) → Bool
-all-below n p = not (some_below n (λ i. not (p i)))
+abbrev pub all_below : ℕ → (ℕ → Bool) → Bool
+all_below n p = not (some_below n (λ i. not (p i)))

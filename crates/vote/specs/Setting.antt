@@ -18,9 +18,9 @@ grades One = 1
 grades Two = 2
 
 -- the decision for a character with a grade, or for no character
-abbrev pub decision-on : ℕ → ℕ → Decision
-decision-on g zero = record { value = 0; grade = 0 }
-decision-on g (suc v) = record { value = suc v; grade = g }
+abbrev pub decision_on : ℕ → ℕ → Decision
+decision_on g zero = record { value = 0; grade = 0 }
+decision_on g (suc v) = record { value = suc v; grade = g }
 
 -- the least value, 0 too, that passes the test
 unfoldable pub lowest : Setting → (ℕ → Bool) → Option ℕ
@@ -31,4 +31,4 @@ lowest S p = seek (suc S.characters) p
 pub record Protocol : Type 0 where
   pub posts : ℕ → List Vote → ℕ → ℕ → Bool
   pub decided : List Vote → Option Decision
-  pub may-lie : Bool
+  pub may_lie : Bool

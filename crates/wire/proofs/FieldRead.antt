@@ -4,7 +4,7 @@ use Rattle.std.proofs.lemmas.List.Sums.{prefix_len-le-length}
 use Rattle.std.proofs.lemmas.List.{length-drop, take_rest}
 use Rattle.std.proofs.lemmas.Bool.{cond-true, cond-false, eq-eqb, ne_eqb, leb-true, leb-false, lt-leb, and_parts, and_cases, and_left, and_right}
 use Rattle.wire.specs.Faults.{fault}
-use Rattle.wire.specs.Fields.{is_digit, run, number, zero-leads, is_within, field_at}
+use Rattle.wire.specs.Fields.{is_digit, run, number, zero_leads, is_within, field_at}
 
 -- the reader's rest of the bytes, `&bytes[p..]`
 abbrev pub rest : List ℕ → ℕ → List ℕ
@@ -28,33 +28,33 @@ module _ (xs : List ℕ) (p v n low high : ℕ) (value : v ≡ min (number (rest
   pub run_inside : p ≤ length xs → p + n ≤ length xs
   run_inside le = omega (arith, long, prefix_len-le-length is_digit (drop p xs), length-drop p xs)
 
-  pub field-none : n ≡ 0 → Err (fault 11 p) ≡ field_at xs p low high
+  pub field_none : n ≡ 0 → Err (fault 11 p) ≡ field_at xs p low high
   unfolding field_at
-  field-none z = sym (cond-true (eqb (run (drop p xs)) 0) _ _ (eq-eqb (run (drop p xs)) 0 (sym long ∙ z)))
+  field_none z = sym (cond-true (eqb (run (drop p xs)) 0) _ _ (eq-eqb (run (drop p xs)) 0 (sym long ∙ z)))
 
   module _ (some : n ≡ 0 → ⊥) where
-    pub field-zero : zero-leads (rest xs p) ≡ true → Err (fault 12 p) ≡ field_at xs p low high
+    pub field_zero : zero_leads (rest xs p) ≡ true → Err (fault 12 p) ≡ field_at xs p low high
     unfolding field_at
-    field-zero z = sym (
+    field_zero z = sym (
         cond-false (eqb (run (drop p xs)) 0) _ _ (ne_eqb (run (drop p xs)) 0 (λ e. some (long ∙ e)))
-        ∙ cond-true (zero-leads (drop p xs)) _ _ (ap zero-leads (sym (take_rest xs p)) ∙ z))
+        ∙ cond-true (zero_leads (drop p xs)) _ _ (ap zero_leads (sym (take_rest xs p)) ∙ z))
 
-    module _ (plain : zero-leads (rest xs p) ≡ false) (low_fits : low < 65536) (high_fits : high < 65536) where
-      by-range : field_at xs p low high ≡ cond (is_within low high (number (drop p xs))) (Ok (number (drop p xs), p + run (drop p xs))) (Err (fault 13 p))
+    module _ (plain : zero_leads (rest xs p) ≡ false) (low_fits : low < 65536) (high_fits : high < 65536) where
+      by_range : field_at xs p low high ≡ cond (is_within low high (number (drop p xs))) (Ok (number (drop p xs), p + run (drop p xs))) (Err (fault 13 p))
       unfolding field_at
-      by-range =
+      by_range =
           cond-false (eqb (run (drop p xs)) 0) _ _ (ne_eqb (run (drop p xs)) 0 (λ e. some (long ∙ e)))
-          ∙ cond-false (zero-leads (drop p xs)) _ _ (ap zero-leads (sym (take_rest xs p)) ∙ plain)
+          ∙ cond-false (zero_leads (drop p xs)) _ _ (ap zero_leads (sym (take_rest xs p)) ∙ plain)
 
       pub field_out : is_within low high v ≡ false → Err (fault 13 p) ≡ field_at xs p low high
-      field_out out = sym (by-range ∙ cond-false (is_within low high (number (drop p xs))) _ _ (cut_out low high (number (drop p xs)) v low_fits high_fits says out))
+      field_out out = sym (by_range ∙ cond-false (is_within low high (number (drop p xs))) _ _ (cut_out low high (number (drop p xs)) v low_fits high_fits says out))
 
-      pub field-good : is_within low high v ≡ true → (Ok (v, p + n) ≡ field_at xs p low high) × (low ≤ v) × (v ≤ high)
-      field-good in-range =
-          let l : low ≤ v = leb-true low v (and_parts (leb low v) (leb v high) in-range).0 in
-          let h : v ≤ high = leb-true v high (and_parts (leb low v) (leb v high) in-range).1 in
+      pub field_good : is_within low high v ≡ true → (Ok (v, p + n) ≡ field_at xs p low high) × (low ≤ v) × (v ≤ high)
+      field_good in_range =
+          let l : low ≤ v = leb-true low v (and_parts (leb low v) (leb v high) in_range).0 in
+          let h : v ≤ high = leb-true v high (and_parts (leb low v) (leb v high) in_range).1 in
           let same : number (drop p xs) ≡ v = omega (arith, says) in (
-            sym (by-range ∙ cond-true (is_within low high (number (drop p xs))) _ _ (ap (is_within low high) same ∙ in-range) ∙ ap₂ (λ x y. Ok (x, p + y)) same (sym long)),
+            sym (by_range ∙ cond-true (is_within low high (number (drop p xs))) _ _ (ap (is_within low high) same ∙ in_range) ∙ ap₂ (λ x y. Ok (x, p + y)) same (sym long)),
             l,
             h,
           )

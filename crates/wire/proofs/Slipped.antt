@@ -10,18 +10,18 @@ use Rattle.wire.specs.declared.slip.Slip.{Slip}
 use Rattle.wire.specs.declared.posted.Posted.{Posted}
 use Rattle.wire.specs.declared.word.Word.{Word}
 use Rattle.wire.specs.Frames.{carried}
-use Rattle.wire.specs.Slips.{has, holds, word_of, words-of-kind, words_of, none-posted, with-word, One-more, Reads-back, frames-of, addressed, mapped}
-use Rattle.wire.specs.Writes.{range-fault, unless}
-use Rattle.wire.proofs.Outcomes.{ok_same, ok-not-err}
-use Rattle.wire.specs.Limits.{max-kind, max-value, frame-max}
-use Rattle.wire.proofs.Counting.{frames-weigh}
-use Rattle.wire.proofs.FrameText.{Ranges, carried-ranges, ranges-carried, frame-max-length, word-reads}
-use Rattle.wire.proofs.Ranging.{none-ranges}
+use Rattle.wire.specs.Slips.{has, holds, word_of, words_of_kind, words_of, none_posted, with_word, OneMore, ReadsBack, frames_of, addressed, mapped}
+use Rattle.wire.specs.Writes.{range_fault, unless}
+use Rattle.wire.proofs.Outcomes.{ok_same, ok_not_err}
+use Rattle.wire.specs.Limits.{max_kind, max_value, frame_max}
+use Rattle.wire.proofs.Counting.{frames_weigh}
+use Rattle.wire.proofs.FrameText.{Ranges, carried_ranges, ranges_carried, frame_max_length, word_reads}
+use Rattle.wire.proofs.Ranging.{none_ranges}
 
 -- a frame can carry the address where a word's own check found no fault
-pub address-sound : (p : Posted) (w : Word) → w ≡ word_of p 1 0 → range-fault w ≡ None → addressed p ≡ true
+pub address_sound : (p : Posted) (w : Word) → w ≡ word_of p 1 0 → range_fault w ≡ None → addressed p ≡ true
 unfolding addressed
-address-sound p w is none = ranges-carried (word_of p 1 0) (none-ranges (word_of p 1 0) (ap range-fault (sym is) ∙ none))
+address_sound p w is none = ranges_carried (word_of p 1 0) (none_ranges (word_of p 1 0) (ap range_fault (sym is) ∙ none))
 
 -- the address alone decides
 pub same_address : (p q : Posted) → q.group ≡ p.group → q.change ≡ p.change → q.sender ≡ p.sender → addressed p ≡ true → addressed q ≡ true
@@ -29,39 +29,39 @@ unfolding addressed
 same_address p q g c s sound = ap carried (let e : word_of q 1 0 ≡ word_of p 1 0 = cc in e) ∙ sound
 
 -- with a sound address, every word that a slip can hold can be carried
-pub word-ranges : (p : Posted) (k v : ℕ) → addressed p ≡ true → 1 ≤ k → k ≤ max-kind → v ≤ max-value → Ranges (word_of p k v)
+pub word_ranges : (p : Posted) (k v : ℕ) → addressed p ≡ true → 1 ≤ k → k ≤ max_kind → v ≤ max_value → Ranges (word_of p k v)
 unfolding addressed
-word-ranges p k v sound l h u =
-    let r = carried-ranges (word_of p 1 0) sound in
-    record { group-low = r.group-low; group-high = r.group-high; change-low = r.change-low; change-high = r.change-high; sender-high = r.sender-high; kind-low = l; kind-high = h; value-high = u }
+word_ranges p k v sound l h u =
+    let r = carried_ranges (word_of p 1 0) sound in
+    record { group_low = r.group_low; group_high = r.group_high; change_low = r.change_low; change_high = r.change_high; sender_high = r.sender_high; kind_low = l; kind_high = h; value_high = u }
 
-pub reads-back : (p : Posted) → addressed p ≡ true → Reads-back p
-reads-back p sound k v l h u = word-reads (word_of p k v) (word-ranges p k v sound l h u)
+pub reads_back : (p : Posted) → addressed p ≡ true → ReadsBack p
+reads_back p sound k v l h u = word_reads (word_of p k v) (word_ranges p k v sound l h u)
 
-pub frames-short : (p : Posted) → addressed p ≡ true → length (frames-of p) ≤ length (words_of p) * frame-max
-frames-short p sound =
-    let one = frame-max-length (word_of p 1 0) (word-ranges p 1 0 sound (lit≤ tt) (lit≤ tt) (lit≤ tt)) in
-    rw (frames-weigh p) (mul-le-mul_left (length (words_of p)) one)
+pub frames_short : (p : Posted) → addressed p ≡ true → length (frames_of p) ≤ length (words_of p) * frame_max
+frames_short p sound =
+    let one = frame_max_length (word_of p 1 0) (word_ranges p 1 0 sound (lit≤ tt) (lit≤ tt) (lit≤ tt)) in
+    rw (frames_weigh p) (mul-le-mul_left (length (words_of p)) one)
 
-pub none-posted-none : (g c s : ℕ) → words_of (none-posted g c s) ≡ []
-unfolding words_of words-of-kind
-none-posted-none g c s = refl
+pub none_posted_none : (g c s : ℕ) → words_of (none_posted g c s) ≡ []
+unfolding words_of words_of_kind
+none_posted_none g c s = refl
 
-or-odd : (a b : ℕ) → bit_or a b % 2 ≡ max (a % 2) (b % 2)
-or-odd a b = let e = or_step a b in omega arith
+or_odd : (a b : ℕ) → bit_or a b % 2 ≡ max (a % 2) (b % 2)
+or_odd a b = let e = or_step a b in omega arith
 
-max-odd : (x y : ℕ) → x < 2 → y < 2 → eqb (max x y) 1 ≡ (eqb x 1 || eqb y 1)
-max-odd x y p q = grind arith
+max_odd : (x y : ℕ) → x < 2 → y < 2 → eqb (max x y) 1 ≡ (eqb x 1 || eqb y 1)
+max_odd x y p q = grind arith
 
-has-or : (m b u : ℕ) → has (bit_or m b) u ≡ (has m u || has b u)
-has-or m b u =
+has_or : (m b u : ℕ) → has (bit_or m b) u ≡ (has m u || has b u)
+has_or m b u =
     ap (λ (x : ℕ). eqb (x % 2) 1) (or_shr m b u)
-    ∙ ap (λ (x : ℕ). eqb x 1) (or-odd (m / 2 ^ u) (b / 2 ^ u))
-    ∙ max-odd (m / 2 ^ u % 2) (b / 2 ^ u % 2) (omega arith) (omega arith)
+    ∙ ap (λ (x : ℕ). eqb x 1) (or_odd (m / 2 ^ u) (b / 2 ^ u))
+    ∙ max_odd (m / 2 ^ u % 2) (b / 2 ^ u % 2) (omega arith) (omega arith)
 
 -- the value v adds 2 to the power v, and so is the one value there
-has-bit : (v u : ℕ) → has (2 ^ v) u ≡ eqb u v
-has-bit v u = ⊎_elim
+has_bit : (v u : ℕ) → has (2 ^ v) u ≡ eqb u v
+has_bit v u = ⊎_elim
     (λ e. ap (λ k. has (2 ^ v) k) e ∙ ap (λ (x : ℕ). eqb (x % 2) 1) (ap (λ (x : ℕ). x / 2 ^ v) (sym (one-mul (2 ^ v))) ∙ shl-shr 1 v) ∙ sym (eq-eqb u v e))
     (⊎_elim
     (λ lt.
@@ -76,26 +76,26 @@ has-bit v u = ⊎_elim
     (cases_order u v)
 
 -- with one word more on it, a slip holds that word and those it held
-pub word-added : (p : Posted) (kind value : ℕ) → 1 ≤ kind → kind ≤ 5 → length p.kinds ≡ 5 → One-more p (with-word p kind value) kind value
-word-added p kind value low high five k v l h = ⊎_elim
+pub word_added : (p : Posted) (kind value : ℕ) → 1 ≤ kind → kind ≤ 5 → length p.kinds ≡ 5 → OneMore p (with_word p kind value) kind value
+word_added p kind value low high five k v l h = ⊎_elim
     (λ e.
     let index : k - 1 ≡ kind - 1 = omega arith in
     let m = get_or p.kinds (kind - 1) 0 in
     ap (λ i. has (get_or (set p.kinds (kind - 1) (bit_or m (2 ^ value))) i 0) v) index
     ∙ ap (λ s. has s v) (get_or-set_same p.kinds (kind - 1) (bit_or m (2 ^ value)) 0 (omega arith))
-    ∙ has-or m (2 ^ value) v
-    ∙ ap₂ ◌||◌ (ap (λ i. has (get_or p.kinds i 0) v) (sym index)) (has-bit value v ∙ sym (ap (λ b. b && eqb v value) (eq-eqb k kind e))))
+    ∙ has_or m (2 ^ value) v
+    ∙ ap₂ ◌||◌ (ap (λ i. has (get_or p.kinds i 0) v) (sym index)) (has_bit value v ∙ sym (ap (λ b. b && eqb v value) (eq-eqb k kind e))))
     (λ ne.
     ap (λ s. has s v) (get_or-set_other p.kinds (kind - 1) (k - 1) (bit_or (get_or p.kinds (kind - 1) 0) (2 ^ value)) 0 (λ e. ne (omega arith)))
-    ∙ sym (ap (λ b. holds p k v || (b && eqb v value)) (ne_eqb k kind ne) ∙ or-none (holds p k v)))
+    ∙ sym (ap (λ b. holds p k v || (b && eqb v value)) (ne_eqb k kind ne) ∙ or_none (holds p k v)))
     (cases_eq k kind)
   where
-    or-none : (b : Bool) → (b || false) ≡ b
-    or-none true = refl
-    or-none false = refl
+    or_none : (b : Bool) → (b || false) ≡ b
+    or_none true = refl
+    or_none false = refl
 
 -- a slip that is made with no words holds none
-pub made-empty : (r : Result Slip FrameFault) (o : Option FrameFault) (p : Posted) → mapped (λ s. s.posted) r ≡ unless o (Ok p) → words_of p ≡ [] → IfOk r (λ s. words_of s.posted ≡ [])
-made-empty (Ok s) None p e none = ap words_of (ok_same s.posted p e) ∙ none
-made-empty (Ok s) (Some f) p e none = ok-not-err s.posted f e
-made-empty (Err d) o p e none = tt
+pub made_empty : (r : Result Slip FrameFault) (o : Option FrameFault) (p : Posted) → mapped (λ s. s.posted) r ≡ unless o (Ok p) → words_of p ≡ [] → IfOk r (λ s. words_of s.posted ≡ [])
+made_empty (Ok s) None p e none = ap words_of (ok_same s.posted p e) ∙ none
+made_empty (Ok s) (Some f) p e none = ok_not_err s.posted f e
+made_empty (Err d) o p e none = tt

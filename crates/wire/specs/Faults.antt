@@ -8,13 +8,13 @@ abbrev pub told : ℕ → Option ℕ → Refusal
 told n p = record { number = n; place = p; board = None }
 
 -- every case with its number and, where bytes are at fault, the place; the layer follows from the number
-abbrev pub refusal-of : FrameFault → Refusal
-refusal-of (NoDigit p) = told 11 (Some p)
-refusal-of (LeadingZero p) = told 12 (Some p)
-refusal-of (OutOfRange p) = told 13 (Some p)
-refusal-of (WrongByte p) = told 14 (Some p)
-refusal-of (Trailing p) = told 15 (Some p)
-refusal-of ShortBuffer = told 20 None
+abbrev pub refusal_of : FrameFault → Refusal
+refusal_of (NoDigit p) = told 11 (Some p)
+refusal_of (LeadingZero p) = told 12 (Some p)
+refusal_of (OutOfRange p) = told 13 (Some p)
+refusal_of (WrongByte p) = told 14 (Some p)
+refusal_of (Trailing p) = told 15 (Some p)
+refusal_of ShortBuffer = told 20 None
 
 -- the fault that has this number, at the place p
 abbrev pub fault : ℕ → ℕ → FrameFault
@@ -25,6 +25,6 @@ fault n p =
     (cond (n == 14) (WrongByte p)
     (cond (n == 15) (Trailing p) ShortBuffer))))
 
-abbrev pub or-zero : Option ℕ → ℕ
-or-zero None = 0
-or-zero (Some p) = p
+abbrev pub or_zero : Option ℕ → ℕ
+or_zero None = 0
+or_zero (Some p) = p

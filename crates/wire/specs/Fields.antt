@@ -20,8 +20,8 @@ abbrev pub number : List ℕ → ℕ
 number xs = value_of (take (run xs) xs)
 
 -- a zero at the front that another digit follows
-abbrev pub zero-leads : List ℕ → Bool
-zero-leads xs = slice_index xs 0 == 48 && is_digit (slice_index xs 1)
+abbrev pub zero_leads : List ℕ → Bool
+zero_leads xs = slice_index xs 0 == 48 && is_digit (slice_index xs 1)
 
 abbrev pub is_within : ℕ → ℕ → ℕ → Bool
 is_within low high n = nat_le low n && nat_le n high
@@ -38,12 +38,12 @@ and_then (Err e) f = Err e
 unfoldable pub field_at : List ℕ → ℕ → ℕ → ℕ → Result (ℕ × ℕ) FrameFault
 field_at xs p low high =
     cond (run (drop p xs) == 0) (Err (fault 11 p))
-    (cond (zero-leads (drop p xs)) (Err (fault 12 p))
+    (cond (zero_leads (drop p xs)) (Err (fault 12 p))
     (cond (is_within low high (number (drop p xs))) (Ok (number (drop p xs), p + run (drop p xs))) (Err (fault 13 p))))
 
 -- the place after a byte that has to stand at p
-abbrev pub after-byte : List ℕ → ℕ → ℕ → Result ℕ FrameFault
-after-byte xs p b = cond (stands xs p b) (Ok (p + 1)) (Err (fault 14 p))
+abbrev pub after_byte : List ℕ → ℕ → ℕ → Result ℕ FrameFault
+after_byte xs p b = cond (stands xs p b) (Ok (p + 1)) (Err (fault 14 p))
 
 -- the reader's place after a call: where the answer says, or as it was
 abbrev pub place_after : {X : Type 0} → (X → ℕ) → Result X FrameFault → ℕ → ℕ

@@ -2,27 +2,27 @@
 use Rattle.std.specs.Prelude.{ℕ}
 
 -- of a group and of a change
-abbrev pub max-id : ℕ
-max-id = 65535
+abbrev pub max_id : ℕ
+max_id = 65535
 
-abbrev pub max-sender : ℕ
-max-sender = 15
+abbrev pub max_sender : ℕ
+max_sender = 15
 
-abbrev pub max-kind : ℕ
-max-kind = 5
+abbrev pub max_kind : ℕ
+max_kind = 5
 
-abbrev pub max-value : ℕ
-max-value = 8
+abbrev pub max_value : ℕ
+max_value = 8
 
-abbrev pub frame-max : ℕ
-frame-max = 19
+abbrev pub frame_max : ℕ
+frame_max = 19
 
 -- of all frames of a slip: five kinds of nine values each
-abbrev pub slip-max : ℕ
-slip-max = 855
+abbrev pub slip_max : ℕ
+slip_max = 855
 
 abbrev pub comma : ℕ
 comma = 44
 
-abbrev pub line-feed : ℕ
-line-feed = 10
+abbrev pub line_feed : ℕ
+line_feed = 10

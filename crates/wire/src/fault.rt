@@ -1,6 +1,6 @@
 // Why a frame is not read, or not written.
 ghost use Rattle.std.specs.Prelude.{◌≡◌};
-ghost use Rattle.wire.specs.Faults.{refusal-of, fault, or-zero};
+ghost use Rattle.wire.specs.Faults.{refusal_of, fault, or_zero};
 
 use refusal::Refusal;
 
@@ -23,8 +23,8 @@ pub enum FrameFault {
 impl FrameFault {
     // What is told of the fault. Number and place determine it.
     pub fn refusal(&self) -> Refusal
-        ensures value { result ≡ refusal-of self.now }
-        ensures determines { fault result.number (or-zero result.place) ≡ self.now }
+        ensures value { result ≡ refusal_of self.now }
+        ensures determines { fault result.number (or_zero result.place) ≡ self.now }
     {
         let (number, place) = match *self {
             FrameFault::NoDigit(place) => (11, Some(place)),

@@ -1,8 +1,8 @@
 // Reads a frame to the word it carries.
 ghost use Rattle.std.specs.Prelude.{◌≡◌, ℕ, ◌≤◌, true, List, IfOk, Ok};
 ghost use Rattle.wire.specs.Fields.{place_after};
-ghost use Rattle.wire.specs.Frames.{ended-field, frame_at, word_in, frame-of, carried};
-ghost use Rattle.wire.specs.Marked.{Marked-cases-hold};
+ghost use Rattle.wire.specs.Frames.{ended_field, frame_at, word_in, frame_of, carried};
+ghost use Rattle.wire.specs.Marked.{MarkedCasesHold};
 
 use crate::fault::FrameFault;
 use crate::limits::{MAX_ID, MAX_KIND, MAX_SENDER, MAX_VALUE};
@@ -12,7 +12,7 @@ use crate::word::Word;
 impl<'a> Reader<'a> {
     // A field and the byte that ends it: the number, and the place after that byte.
     fn ended_field(&mut self, low: u16, high: u16, end: u8) -> Result<(u16, usize), FrameFault>
-        ensures value { result ≡ ended-field self.old.bytes.now self.old.place low high end }
+        ensures value { result ≡ ended_field self.old.bytes.now self.old.place low high end }
         ensures range { IfOk result (λ x. (low ≤ x.0) × (x.0 ≤ high)) }
         ensures place { IfOk result (λ x. self.new.place ≡ x.1) }
         ensures same { self.new.bytes.now ≡ self.old.bytes.now }
@@ -49,9 +49,9 @@ impl<'a> Reader<'a> {
 // The word that the bytes carry, which are one frame and nothing more.
 pub fn read_frame(bytes: &[u8]) -> Result<Word, FrameFault>
     ensures value { result ≡ word_in bytes.now }
-    ensures an_accepted_frame_is_the_one_its_word_has { IfOk result (λ w. (carried w ≡ true) × (bytes.now ≡ frame-of w)) }
+    ensures an_accepted_frame_is_the_one_its_word_has { IfOk result (λ w. (carried w ≡ true) × (bytes.now ≡ frame_of w)) }
     ensures each_word_has_one_frame { IfOk result (λ w. (xs : List ℕ) → word_in xs ≡ Ok w → xs ≡ bytes.now) }
-    ensures the_marked_cases_hold { Marked-cases-hold }
+    ensures the_marked_cases_hold { MarkedCasesHold }
 {
     let mut reader = Reader::new(bytes);
     let (word, end) = reader.frame()?;

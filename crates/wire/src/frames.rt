@@ -1,9 +1,9 @@
 // The frames of the words that a board has posted, put one after the other.
 ghost use Rattle.std.specs.Prelude.{◌≡◌, ℕ, ◌+◌, ◌<◌, ◌≤◌, length};
 ghost use Rattle.std.specs.List.{flat_map};
-ghost use Rattle.wire.specs.Frames.{frame-of};
-ghost use Rattle.wire.specs.Slips.{has, words_of, if-held, words-of-kind, frames-of};
-ghost use Rattle.wire.specs.Writes.{put-at};
+ghost use Rattle.wire.specs.Frames.{frame_of};
+ghost use Rattle.wire.specs.Slips.{has, words_of, if_held, words_of_kind, frames_of};
+ghost use Rattle.wire.specs.Writes.{put_at};
 
 use crate::limits::MAX_VALUE;
 use crate::posted::{KINDS, Posted, word_of};
@@ -27,9 +27,9 @@ fn has(set: u16, value: u16) -> bool
 fn put_held(posted: &Posted, kind: u8, value: u8, buf: &mut [u8], at: usize) -> usize
     requires kind { (kind < 6) × (0 < kind) }
     requires value { value < 9 }
-    requires room { at + length (flat_map frame-of (if-held posted.now kind value)) ≤ length buf.old }
-    ensures value { result ≡ at + length (flat_map frame-of (if-held posted.now kind value)) }
-    ensures buffer { buf.new ≡ put-at at (flat_map frame-of (if-held posted.now kind value)) buf.old }
+    requires room { at + length (flat_map frame_of (if_held posted.now kind value)) ≤ length buf.old }
+    ensures value { result ≡ at + length (flat_map frame_of (if_held posted.now kind value)) }
+    ensures buffer { buf.new ≡ put_at at (flat_map frame_of (if_held posted.now kind value)) buf.old }
 {
     let index = kind - 1;
     if !has(posted.kinds[index as usize], value as u16) {
@@ -41,9 +41,9 @@ fn put_held(posted: &Posted, kind: u8, value: u8, buf: &mut [u8], at: usize) -> 
 // Puts the frames of one kind, by value, and answers the place after them.
 fn put_kind(posted: &Posted, kind: u8, buf: &mut [u8], at: usize) -> usize
     requires kind { (kind < 6) × (0 < kind) }
-    requires room { at + length (flat_map frame-of (words-of-kind posted.now kind)) ≤ length buf.old }
-    ensures value { result ≡ at + length (flat_map frame-of (words-of-kind posted.now kind)) }
-    ensures buffer { buf.new ≡ put-at at (flat_map frame-of (words-of-kind posted.now kind)) buf.old }
+    requires room { at + length (flat_map frame_of (words_of_kind posted.now kind)) ≤ length buf.old }
+    ensures value { result ≡ at + length (flat_map frame_of (words_of_kind posted.now kind)) }
+    ensures buffer { buf.new ≡ put_at at (flat_map frame_of (words_of_kind posted.now kind)) buf.old }
 {
     let mut place = at;
     for value in 0..VALUES as u8 {
@@ -54,9 +54,9 @@ fn put_kind(posted: &Posted, kind: u8, buf: &mut [u8], at: usize) -> usize
 
 // Puts all frames from the front of the buffer on, by kind and then value, and answers the place after them.
 pub(crate) fn put_frames(posted: &Posted, buf: &mut [u8]) -> usize
-    requires { length (frames-of posted.now) ≤ length buf.old }
-    ensures value { result ≡ 0 + length (frames-of posted.now) }
-    ensures buffer { buf.new ≡ put-at 0 (frames-of posted.now) buf.old }
+    requires { length (frames_of posted.now) ≤ length buf.old }
+    ensures value { result ≡ 0 + length (frames_of posted.now) }
+    ensures buffer { buf.new ≡ put_at 0 (frames_of posted.now) buf.old }
 {
     let mut place = 0;
     for index in 0..KINDS as u8 {
@@ -79,7 +79,7 @@ pub(crate) fn count(posted: &Posted) -> usize
 
 // How many bytes their frames have: all are of one length, since a kind and a value are one digit each.
 pub(crate) fn frames_len(posted: &Posted) -> usize
-    ensures { result ≡ length (frames-of posted.now) }
+    ensures { result ≡ length (frames_of posted.now) }
 {
     count(posted) * frame_len(word_of(posted, 1, 0))
 }

@@ -1,7 +1,7 @@
 // Numbers in base ten, written from their last digit back.
 ghost use Rattle.std.specs.Prelude.{◌≡◌, ℕ, ◌+◌, ◌≤◌, length, decimal};
-ghost use Rattle.wire.specs.Writes.{put-at};
-ghost use Rattle.wire.specs.Frames.{field-bytes};
+ghost use Rattle.wire.specs.Writes.{put_at};
+ghost use Rattle.wire.specs.Frames.{field_bytes};
 
 // How many digits the number has.
 pub(crate) fn width(number: u16) -> usize
@@ -21,7 +21,7 @@ pub(crate) fn width(number: u16) -> usize
 fn put_number(number: u16, buf: &mut [u8], at: usize) -> usize
     requires { at + length (decimal number) ≤ length buf.old }
     ensures value { result ≡ at + length (decimal number) }
-    ensures buffer { buf.new ≡ put-at at (decimal number) buf.old }
+    ensures buffer { buf.new ≡ put_at at (decimal number) buf.old }
 {
     let digits = width(number);
     let mut left = number;
@@ -36,9 +36,9 @@ fn put_number(number: u16, buf: &mut [u8], at: usize) -> usize
 
 // Puts the number and the byte that ends its field, and answers the place after it.
 pub(crate) fn put_field(number: u16, end: u8, buf: &mut [u8], at: usize) -> usize
-    requires { at + length (field-bytes number end) ≤ length buf.old }
-    ensures value { result ≡ at + length (field-bytes number end) }
-    ensures buffer { buf.new ≡ put-at at (field-bytes number end) buf.old }
+    requires { at + length (field_bytes number end) ≤ length buf.old }
+    ensures value { result ≡ at + length (field_bytes number end) }
+    ensures buffer { buf.new ≡ put_at at (field_bytes number end) buf.old }
 {
     let place = put_number(number, buf, at);
     buf[place] = end;

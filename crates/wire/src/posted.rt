@@ -1,6 +1,6 @@
 // The words that one board has posted of one change, as a set.
 ghost use Rattle.std.specs.Prelude.{◌≡◌, ℕ, ◌≤◌};
-ghost use Rattle.wire.specs.Slips.{word_of, none-posted, with-word, One-more};
+ghost use Rattle.wire.specs.Slips.{word_of, none_posted, with_word, OneMore};
 
 use crate::word::Word;
 
@@ -18,7 +18,7 @@ pub struct Posted {
 
 // Nothing posted yet.
 pub(crate) fn none_posted(group: u16, change: u16, sender: u8) -> Posted
-    ensures { result ≡ none-posted group change sender }
+    ensures { result ≡ none_posted group change sender }
 {
     Posted {
         group,
@@ -44,8 +44,8 @@ pub(crate) fn word_of(posted: &Posted, kind: u8, value: u8) -> Word
 // The word of this kind and value posted too.
 pub(crate) fn with_word(posted: &Posted, kind: u8, value: u8) -> Posted
     requires { (1 ≤ kind) × ((kind ≤ 5) × (value ≤ 8)) }
-    ensures value { result ≡ with-word posted.now kind value }
-    ensures one_more { One-more posted.now result kind value }
+    ensures value { result ≡ with_word posted.now kind value }
+    ensures one_more { OneMore posted.now result kind value }
 {
     let mut kinds = posted.kinds;
     let index = (kind - 1) as usize;

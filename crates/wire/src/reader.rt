@@ -1,6 +1,6 @@
 // Reads fields straight from the bytes that a port brought.
 ghost use Rattle.std.specs.Prelude.{◌≡◌, ℕ, ◌+◌, ◌≤◌, min, length, IfOk};
-ghost use Rattle.wire.specs.Fields.{run, number, is_digit, zero-leads, field_at, after-byte, place_after};
+ghost use Rattle.wire.specs.Fields.{run, number, is_digit, zero_leads, field_at, after_byte, place_after};
 
 use crate::fault::FrameFault;
 use crate::limits::within;
@@ -48,7 +48,7 @@ impl<'a> Reader<'a> {
 
     // Passes the byte that has to stand here, and answers the place after it.
     pub fn pass(&mut self, byte: u8) -> Result<usize, FrameFault>
-        ensures value { result ≡ after-byte self.old.bytes.now self.old.place byte }
+        ensures value { result ≡ after_byte self.old.bytes.now self.old.place byte }
         ensures place { self.new.place ≡ place_after (λ x. x) result self.old.place }
         ensures same { self.new.bytes.now ≡ self.old.bytes.now }
     {
@@ -71,7 +71,7 @@ fn is_digit(byte: u8) -> bool
 
 // Whether a zero stands at the front, and another digit behind it.
 fn zero_leads(bytes: &[u8]) -> bool
-    ensures { result ≡ zero-leads bytes.now }
+    ensures { result ≡ zero_leads bytes.now }
 {
     if bytes.len() < 2 {
         return false;

@@ -1,7 +1,7 @@
 // A slip: the words that a board has just posted, to be written out before the slip is let go.
 ghost use Rattle.std.specs.Prelude.{◌≡◌, ℕ, ◌*◌, ◌≤◌, true, [], length, is_ok, IfOk, IfErr, if◌then◌else◌, Ok, OnOk, slice_index};
-ghost use Rattle.wire.specs.Slips.{words_of, word_of, frames-of, addressed, slip-made, with-word, One-more, Reads-back, emptied, mapped, mapped-both};
-ghost use Rattle.wire.specs.Writes.{range-fault, unless, fitting, buffer-after};
+ghost use Rattle.wire.specs.Slips.{words_of, word_of, frames_of, addressed, slip_made, with_word, OneMore, ReadsBack, emptied, mapped, mapped_both};
+ghost use Rattle.wire.specs.Writes.{range_fault, unless, fitting, buffer_after};
 
 use crate::fault::FrameFault;
 use crate::posted::Posted;
@@ -25,7 +25,7 @@ impl Drop for Slip {
 impl Slip {
     // A slip without words.
     pub fn empty(group: u16, change: u16, sender: u8) -> Result<Slip, FrameFault>
-        ensures value { mapped (λ s. s.posted) result ≡ slip-made group change sender }
+        ensures value { mapped (λ s. s.posted) result ≡ slip_made group change sender }
         ensures no_words { IfOk result (λ s. words_of s.posted ≡ []) }
     {
         Slip::holding(posted::none_posted(group, change, sender))
@@ -33,7 +33,7 @@ impl Slip {
 
     // A slip with these words. Of a set of values, what is above the largest value stands for no word.
     pub fn holding(posted: Posted) -> Result<Slip, FrameFault>
-        ensures { mapped (λ s. s.posted) result ≡ unless (range-fault (word_of posted 1 0)) (Ok posted) }
+        ensures { mapped (λ s. s.posted) result ≡ unless (range_fault (word_of posted 1 0)) (Ok posted) }
     {
         if let Some(fault) = range_fault(posted::word_of(&posted, 1, 0)) {
             return Err(fault);
@@ -50,9 +50,9 @@ impl Slip {
 
     // Puts the word of this kind and value on the slip; or refuses, and leaves the slip as it was.
     pub fn post(&mut self, kind: u8, value: u8) -> Result<(), FrameFault>
-        ensures value { result ≡ unless (range-fault (word_of self.old.posted kind value)) (Ok tt) }
-        ensures posted { self.new.posted ≡ (if is_ok result then with-word self.old.posted kind value else self.old.posted) }
-        ensures one_word_more_and_no_other { OnOk result (One-more self.old.posted self.new.posted kind value) }
+        ensures value { result ≡ unless (range_fault (word_of self.old.posted kind value)) (Ok tt) }
+        ensures posted { self.new.posted ≡ (if is_ok result then with_word self.old.posted kind value else self.old.posted) }
+        ensures one_word_more_and_no_other { OnOk result (OneMore self.old.posted self.new.posted kind value) }
     {
         let posted = self.posted;
         if let Some(fault) = range_fault(posted::word_of(&posted, kind, value)) {
@@ -65,11 +65,11 @@ impl Slip {
     // Writes the frames, by kind and then value, and then zero bytes to the end of the buffer, and empties the slip;
     // answers how many bytes the frames have. Or refuses, and leaves the buffer and the slip as they were.
     pub fn write(&mut self, buf: &mut [u8]) -> Result<usize, FrameFault>
-        ensures value { result ≡ fitting (frames-of self.old.posted) (length buf.old) }
-        ensures buffer { buf.new ≡ buffer-after (frames-of self.old.posted) result buf.old }
+        ensures value { result ≡ fitting (frames_of self.old.posted) (length buf.old) }
+        ensures buffer { buf.new ≡ buffer_after (frames_of self.old.posted) result buf.old }
         ensures posted { self.new.posted ≡ (if is_ok result then emptied self.old.posted else self.old.posted) }
         ensures a_written_slip_is_empty { OnOk result (words_of self.new.posted ≡ []) }
-        ensures each_frame_reads_back_as_its_word { OnOk result (Reads-back self.old.posted) }
+        ensures each_frame_reads_back_as_its_word { OnOk result (ReadsBack self.old.posted) }
         ensures at_most_19_bytes_for_each_word { IfOk result (λ n. n ≤ length (words_of self.old.posted) * 19) }
         ensures a_buffer_of_19_bytes_for_each_word_is_enough { length (words_of self.old.posted) * 19 ≤ length buf.old → is_ok result ≡ true }
         ensures a_buffer_of_855_bytes_is_always_enough { 855 ≤ length buf.old → is_ok result ≡ true }
@@ -87,8 +87,8 @@ impl Slip {
 
     // Writes the slip and lets it go; or hands it back as it was, with the refusal.
     pub fn write_out(mut self, buf: &mut [u8]) -> Result<usize, (Slip, FrameFault)>
-        ensures value { mapped-both (λ n. n) (λ e. e.1) result ≡ fitting (frames-of self.posted) (length buf.old) }
-        ensures buffer { buf.new ≡ buffer-after (frames-of self.posted) (mapped-both (λ n. n) (λ e. e.1) result) buf.old }
+        ensures value { mapped_both (λ n. n) (λ e. e.1) result ≡ fitting (frames_of self.posted) (length buf.old) }
+        ensures buffer { buf.new ≡ buffer_after (frames_of self.posted) (mapped_both (λ n. n) (λ e. e.1) result) buf.old }
         ensures handed_back { IfErr result (λ e. e.0.posted ≡ self.posted) }
     {
         match self.write(buf) {

@@ -1,7 +1,7 @@
 // Writes a word as its frame, and leaves nothing behind it.
 ghost use Rattle.std.specs.Prelude.{◌≡◌, ℕ, ◌+◌, ◌-◌, ◌≤◌, ◌++◌, length, take, replicate, IfOk, Ok, slice_index};
-ghost use Rattle.wire.specs.Frames.{frame-of, word_in};
-ghost use Rattle.wire.specs.Writes.{put-at, range-fault, word-written, buffer-after};
+ghost use Rattle.wire.specs.Frames.{frame_of, word_in};
+ghost use Rattle.wire.specs.Writes.{put_at, range_fault, word_written, buffer_after};
 
 use crate::fault::FrameFault;
 use crate::limits::{MAX_ID, MAX_KIND, MAX_SENDER, MAX_VALUE, within};
@@ -10,7 +10,7 @@ use crate::word::Word;
 
 // How many bytes the word's frame has.
 pub(crate) fn frame_len(word: Word) -> usize
-    ensures value { result ≡ length (frame-of word) }
+    ensures value { result ≡ length (frame_of word) }
     ensures bound { result ≤ 30 }
 {
     width(word.group)
@@ -23,9 +23,9 @@ pub(crate) fn frame_len(word: Word) -> usize
 
 // Puts the word's frame at a place, and answers the place after it.
 pub(crate) fn put_frame(word: Word, buf: &mut [u8], at: usize) -> usize
-    requires { at + length (frame-of word) ≤ length buf.old }
-    ensures value { result ≡ at + length (frame-of word) }
-    ensures buffer { buf.new ≡ put-at at (frame-of word) buf.old }
+    requires { at + length (frame_of word) ≤ length buf.old }
+    ensures value { result ≡ at + length (frame_of word) }
+    ensures buffer { buf.new ≡ put_at at (frame_of word) buf.old }
 {
     let change = put_field(word.group, b',', buf, at);
     let sender = put_field(word.change, b',', buf, change);
@@ -46,7 +46,7 @@ pub(crate) fn clear_from(buf: &mut [u8], at: usize)
 
 // The first number of the word that no frame can carry, by the place where its field would begin.
 pub(crate) fn range_fault(word: Word) -> Option<FrameFault>
-    ensures { result ≡ range-fault word }
+    ensures { result ≡ range_fault word }
 {
     let change = width(word.group) + 1;
     let sender = change + width(word.change) + 1;
@@ -73,8 +73,8 @@ pub(crate) fn range_fault(word: Word) -> Option<FrameFault>
 // Writes the word's frame and then zero bytes to the end of the buffer, and answers the frame's length;
 // or refuses, and leaves the buffer as it was.
 pub fn write_word(word: Word, buf: &mut [u8]) -> Result<usize, FrameFault>
-    ensures value { result ≡ word-written word (length buf.old) }
-    ensures buffer { buf.new ≡ buffer-after (frame-of word) result buf.old }
+    ensures value { result ≡ word_written word (length buf.old) }
+    ensures buffer { buf.new ≡ buffer_after (frame_of word) result buf.old }
     ensures the_frame_reads_back_as_the_word { IfOk result (λ n. word_in (take n buf.new) ≡ Ok word) }
     ensures a_frame_is_at_most_19_bytes { IfOk result (λ n. n ≤ 19) }
     ensures no_byte_behind_is_other_than_zero { IfOk result (λ n. (k : ℕ) → n ≤ k → slice_index buf.new k ≡ 0) }

@@ -1,36 +1,36 @@
 -- One run of the echo method: what is heard of steady boards, and two ample words of one kind are equal. Assumes nothing.
 use Rattle.std.proofs.Common.{◌≡◌, ℕ, ◌≤◌, true, false, eqb, ◌≢◌, List, Some, inl, inr}
-use Rattle.quorum.proofs.Tested.{ampleBy-grows}
+use Rattle.quorum.proofs.Tested.{ample_by_grows}
 use Rattle.vote.specs.declared.Vote.{Vote}
 use Rattle.vote.specs.History.{counted, seen, says, speaks}
 use Rattle.vote.specs.Search.{given}
 use Rattle.vote.specs.Setting.{Setting}
-use Rattle.vote.proofs.Options.{given-found, given-from, is_found, is-from, holds-one}
+use Rattle.vote.proofs.Options.{given_found, given_from, is_found, is_from, holds_one}
 use Rattle.vote.proofs.Counting.{first_counted}
 use Rattle.agreement.specs.Runs.{Event, start_of, history, Crew, Steady, Legal}
 use Rattle.agreement.specs.Echo.{said, echoed, echo}
 use Rattle.agreement.proofs.Steadies.{Ample, meet}
-use Rattle.agreement.proofs.Running.{posted-found, counter-started, sends}
+use Rattle.agreement.proofs.Running.{posted_found, counter_started, sends}
 use Rattle.agreement.proofs.Echo.Sound.{Third, Passed}
-use Rattle.agreement.proofs.Echo.Echoes.{echo-grows, posts-echo, posted-said}
+use Rattle.agreement.proofs.Echo.Echoes.{echo_grows, posts_echo, posted_said}
 
 -- ---- what is passed on
-pub passed-character : (S : Setting) (c : ℕ) (h : List Vote) (v : ℕ) → v ≢ 0 → Passed S c h v → Ample S (says (seen h) c v)
-passed-character S c h v nz (inl a) = a
-passed-character S c h v nz (inr b) = absurd (nz b.0)
+pub passed_character : (S : Setting) (c : ℕ) (h : List Vote) (v : ℕ) → v ≢ 0 → Passed S c h v → Ample S (says (seen h) c v)
+passed_character S c h v nz (inl a) = a
+passed_character S c h v nz (inr b) = absurd (nz b.0)
 
-pub third-character : (S : Setting) (h : List Vote) (v : ℕ) → v ≢ 0 → Third S h v → Ample S (says (seen h) 2 v)
-third-character S h v nz (inl a) = a
-third-character S h v nz (inr b) = absurd (nz b.0)
+pub third_character : (S : Setting) (h : List Vote) (v : ℕ) → v ≢ 0 → Third S h v → Ample S (says (seen h) 2 v)
+third_character S h v nz (inl a) = a
+third_character S h v nz (inr b) = absurd (nz b.0)
 
 module _ {S : Setting} (C : Crew S) where
   -- who says a value speaks
-  pub says-speaks : (c : ℕ) (h : List Vote) (v : ℕ) → Ample S (says (seen h) c v) → Ample S (speaks (seen h) c)
-  says-speaks c h v a = ampleBy-grows C.lawful _ _ (λ i l q. given-from (is_found v _ q)) a
+  pub says_speaks : (c : ℕ) (h : List Vote) (v : ℕ) → Ample S (says (seen h) c v) → Ample S (speaks (seen h) c)
+  says_speaks c h v a = ample_by_grows C.lawful _ _ (λ i l q. given_from (is_found v _ q)) a
 
-  pub passed-speaks : (c : ℕ) (h : List Vote) (v : ℕ) → Passed S c h v → Ample S (speaks (seen h) c)
-  passed-speaks c h v (inl a) = says-speaks c h v a
-  passed-speaks c h v (inr b) = b.2
+  pub passed_speaks : (c : ℕ) (h : List Vote) (v : ℕ) → Passed S c h v → Ample S (speaks (seen h) c)
+  passed_speaks c h v (inl a) = says_speaks c h v a
+  passed_speaks c h v (inr b) = b.2
 
   module _ (three : 3 ≤ S.rule.cover) (r : List Event) (lg : Legal (echo S) C r) where
     abbrev H : ℕ → List Vote
@@ -40,31 +40,31 @@ module _ {S : Setting} (C : Crew S) where
     abbrev pub Said : ℕ → ℕ → ℕ → Type 0
     Said i c v = said S (H i) c ≡ Some v
 
-    pub heard-echo : (j i v : ℕ) → Steady (echo S) C i → counted (H j) 1 v i ≡ true → (s : ℕ) × (start_of r i ≡ Some s) × (echoed S s (H i) v ≡ true)
-    heard-echo j i v si p =
-        let k = posted-found (echo S) r i 1 v (sends (echo S) C (echo-grows S) r lg j 1 v i si p) in (k.0, k.1, posts-echo S k.0 (H i) v k.2)
+    pub heard_echo : (j i v : ℕ) → Steady (echo S) C i → counted (H j) 1 v i ≡ true → (s : ℕ) × (start_of r i ≡ Some s) × (echoed S s (H i) v ≡ true)
+    heard_echo j i v si p =
+        let k = posted_found (echo S) r i 1 v (sends (echo S) C (echo_grows S) r lg j 1 v i si p) in (k.0, k.1, posts_echo S k.0 (H i) v k.2)
 
-    pub heard-said : (c : ℕ) → eqb c 1 ≡ false → (j i v : ℕ) → Steady (echo S) C i → says (seen (H j)) c v i ≡ true → Said i c v
-    heard-said c n j i v si p = posted-said S r i c v n (sends (echo S) C (echo-grows S) r lg j c v i si (first_counted (H j) c i v (is_found v _ p)))
+    pub heard_said : (c : ℕ) → eqb c 1 ≡ false → (j i v : ℕ) → Steady (echo S) C i → says (seen (H j)) c v i ≡ true → Said i c v
+    heard_said c n j i v si p = posted_said S r i c v n (sends (echo S) C (echo_grows S) r lg j c v i si (first_counted (H j) c i v (is_found v _ p)))
 
     pub spoken : (c : ℕ) → eqb c 1 ≡ false → (j i : ℕ) → Steady (echo S) C i → speaks (seen (H j)) c i ≡ true → (v : ℕ) × Said i c v
-    spoken c n j i si p = let k = given-found _ p in (k.0, heard-said c n j i k.0 si (is-from k.0 k.1))
+    spoken c n j i si p = let k = given_found _ p in (k.0, heard_said c n j i k.0 si (is_from k.0 k.1))
 
     -- an ample word has a steady sender
-    pub ample-said : (c : ℕ) → eqb c 1 ≡ false → (j v : ℕ) → Ample S (says (seen (H j)) c v) → (i : ℕ) × Steady (echo S) C i × Said i c v
-    ample-said c n j v a = let k = meet (echo S) C three _ _ a a in (k.0, k.1, heard-said c n j k.0 v k.1 k.2)
+    pub ample_said : (c : ℕ) → eqb c 1 ≡ false → (j v : ℕ) → Ample S (says (seen (H j)) c v) → (i : ℕ) × Steady (echo S) C i × Said i c v
+    ample_said c n j v a = let k = meet (echo S) C three _ _ a a in (k.0, k.1, heard_said c n j k.0 v k.1 k.2)
 
-    pub ample-spoken : (c : ℕ) → eqb c 1 ≡ false → (j : ℕ) → Ample S (speaks (seen (H j)) c) → (i : ℕ) × (v : ℕ) × Steady (echo S) C i × Said i c v
-    ample-spoken c n j a = let k = meet (echo S) C three _ _ a a in let q = spoken c n j k.0 k.1 k.2 in (k.0, q.0, k.1, q.1)
+    pub ample_spoken : (c : ℕ) → eqb c 1 ≡ false → (j : ℕ) → Ample S (speaks (seen (H j)) c) → (i : ℕ) × (v : ℕ) × Steady (echo S) C i × Said i c v
+    ample_spoken c n j a = let k = meet (echo S) C three _ _ a a in let q = spoken c n j k.0 k.1 k.2 in (k.0, q.0, k.1, q.1)
 
     -- a board that has ample senders of a kind has started
-    pub hearer-started : (c j : ℕ) → Ample S (speaks (seen (H j)) c) → given (start_of r j) ≡ true
-    hearer-started c j a =
+    pub hearer_started : (c j : ℕ) → Ample S (speaks (seen (H j)) c) → given (start_of r j) ≡ true
+    hearer_started c j a =
         let k = meet (echo S) C three _ _ a a in
-        let v = given-found _ k.2 in
-        counter-started (echo S) C r lg j c v.0 k.0 (first_counted (H j) c k.0 v.0 v.1)
+        let v = given_found _ k.2 in
+        counter_started (echo S) C r lg j c v.0 k.0 (first_counted (H j) c k.0 v.0 v.1)
 
     -- two ample words of one kind are equal
     pub agree : (c : ℕ) → eqb c 1 ≡ false → (i j u v : ℕ) → Ample S (says (seen (H i)) c u) → Ample S (says (seen (H j)) c v) → u ≡ v
     agree c n i j u v a b =
-        let k = meet (echo S) C three _ _ a b in holds-one (heard-said c n i k.0 u k.1 k.2) (heard-said c n j k.0 v k.1 k.3)
+        let k = meet (echo S) C three _ _ a b in holds_one (heard_said c n i k.0 u k.1 k.2) (heard_said c n j k.0 v k.1 k.3)

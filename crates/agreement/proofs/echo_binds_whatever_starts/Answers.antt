@@ -1,6 +1,6 @@
 -- Assumes nothing.
-use Rattle.agreement.proofs.Agreeing.{echo-binds-whatever-starts}
+use Rattle.agreement.proofs.Agreeing.{echo_binds_whatever_starts}
 use Rattle.agreement.proofs.echo_binds_whatever_starts.Goals as goal
 
 pub returns : goal.returns
-returns c = echo-binds-whatever-starts
+returns c = echo_binds_whatever_starts

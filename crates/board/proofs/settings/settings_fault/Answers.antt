@@ -1,6 +1,6 @@
-use Rattle.board.specs.Fitting.{settings-fault}
+use Rattle.board.specs.Fitting.{settings_fault}
 use Rattle.board.proofs.settings.settings_fault.Goals as goal
 
 pub returns : goal.returns
-unfolding settings-fault
+unfolding settings_fault
 returns g c = cc

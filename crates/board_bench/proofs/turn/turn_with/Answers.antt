@@ -2,13 +2,13 @@
 use Rattle.std.proofs.Common.{sym, refl, ap, ◌∙◌, arith}
 use Rattle.std.proofs.lemmas.List.{take_rest}
 use Rattle.board_bench.specs.Answers.{refused, taken}
-use Rattle.board_bench.proofs.Turning.{turned-refused, turned_taken}
+use Rattle.board_bench.proofs.Turning.{turned_refused, turned_taken}
 use Rattle.board_bench.proofs.turn.turn_with.Goals as goal
 
 pub returns-in-Err : goal.returns-in-Err
 returns-in-Err c = record {
   same = c.take.ensures.same;
-  turned = turned-refused _ _ _ _ _ _ _ c.args.line.now c.in-Some.said (sym c.read_said.ensures.value ∙ c.in-Some.is) _ (take_rest c.args.line.now c.in-Some.said.begins) c.in-Err.fault
+  turned = turned_refused _ _ _ _ _ _ _ c.args.line.now c.in-Some.said (sym c.read_said.ensures.value ∙ c.in-Some.is) _ (take_rest c.args.line.now c.in-Some.said.begins) c.in-Err.fault
       c.in-Err.ensures.refused.0 (c.refused_for.ensures ∙ ap refused c.refusal.ensures) c.in-Err.ensures.refused.1 refl;
   within = omega arith;
 }

@@ -2,7 +2,7 @@
 use Rattle.std.proofs.Common.{ℕ, List, get_or, ◌∙◌, arith}
 use Rattle.lines.specs.Calls.{Call, carries}
 use Rattle.lines.specs.Items.{items}
-use Rattle.lines.proofs.Calling.{none_read, too-many-read, just-read, same-carry}
+use Rattle.lines.proofs.Calling.{none_read, too_many_read, just_read, same_carry}
 use Rattle.lines.proofs.numeric.carry.Goals as goal
 
 abbrev carried : List ℕ → Call
@@ -13,13 +13,13 @@ returns-in_default c = record { call = λ line. none_read c.args.body.now 4 carr
 
 pub returns-then-len-ne4 : goal.returns-then-len-ne4
 returns-then-len-ne4 c = record {
-  call = λ line. too-many-read c.args.body.now 4 carried (items c.in-Some.numbers) c.in-Some.ensures (λ e. omega arith);
+  call = λ line. too_many_read c.args.body.now 4 carried (items c.in-Some.numbers) c.in-Some.ensures (λ e. omega arith);
   within = λ line. tt;
 }
 
 pub returns : goal.returns
 returns c = record {
-  call = λ line. same-carry c.at.ensures c.at-2.ensures c.at-3.ensures c.at-4.ensures
-      ∙ just-read c.args.body.now 4 carried (items c.in-Some.numbers) c.in-Some.ensures (omega arith);
+  call = λ line. same_carry c.at.ensures c.at-2.ensures c.at-3.ensures c.at-4.ensures
+      ∙ just_read c.args.body.now 4 carried (items c.in-Some.numbers) c.in-Some.ensures (omega arith);
   within = λ line. tt;
 }

@@ -2,7 +2,7 @@
 use Rattle.std.proofs.Common.{ℕ, ◌-◌, ◌^◌, sym, ap, ◌∙◌, arith}
 use lib.Bits.{bit_and, and_le_l, and_comm, and_mask}
 use Rattle.std.proofs.lemmas.Nat.{one_shl}
-use Rattle.quorum.proofs.Masks.{rest-is}
+use Rattle.quorum.proofs.Masks.{rest_is}
 use Rattle.quorum.proofs.set.outside.Goals as goal
 
 pub overflow_sub-left : goal.overflow_sub-left
@@ -14,4 +14,4 @@ returns c =
     let s = c.args.set in
     ap (λ (x : ℕ). x - 1 - bit_and (x - 1) s) (one_shl n 32 (omega arith))
     ∙ ap (λ (x : ℕ). 2 ^ n - 1 - x) (and_comm (2 ^ n - 1) s ∙ and_mask s n)
-    ∙ sym (rest-is n s)
+    ∙ sym (rest_is n s)

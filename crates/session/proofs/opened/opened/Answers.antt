@@ -1,34 +1,34 @@
 use Rattle.std.proofs.Common.{◌≡◌, ℕ, ◌≤◌, [], None, Some, sym, ap, ◌∙◌, subst}
 use Rattle.std.proofs.lemmas.Result.{err_from_is_err_and}
 use Rattle.lines.specs.Told.{opening_of}
-use Rattle.quorum.specs.Meaning.{either-rule}
+use Rattle.quorum.specs.Meaning.{either_rule}
 use Rattle.quorum.specs.Rules.{Rule}
-use Rattle.wire.proofs.FrameText.{within-parts}
+use Rattle.wire.proofs.FrameText.{within_parts}
 use Rattle.group.specs.Opening as group
 use Rattle.group.specs.Promises.{Reached}
-use Rattle.session.proofs.Openings.{lifted, sizes-some, sizes-good, rule-some, group-asked, settles}
+use Rattle.session.proofs.Openings.{lifted, sizes_some, sizes_good, rule_some, group_asked, settles}
 use Rattle.session.proofs.opened.opened.Goals as goal
 
 pub returns-in-Some : goal.returns-in-Some
-returns-in-Some c = sizes-some (opening_of c.args.plan.now) c.in-Some.fault (sym c.sizes_fault.ensures ∙ c.in-Some.is)
+returns-in-Some c = sizes_some (opening_of c.args.plan.now) c.in-Some.fault (sym c.sizes_fault.ensures ∙ c.in-Some.is)
 
 pub returns-in_err-rule : goal.returns-in_err-rule
 returns-in_err-rule c =
     let p = err_from_is_err_and c.from_residual.result c.from_residual.ensures.1 in
-    rw (p.1, p.2) (rule-some (opening_of c.args.plan.now) (sym c.sizes_fault.ensures ∙ c.in_default.is) c.in_err-rule.field-0.0 c.in_err-rule.ensures)
+    rw (p.1, p.2) (rule_some (opening_of c.args.plan.now) (sym c.sizes_fault.ensures ∙ c.in_default.is) c.in_err-rule.field-0.0 c.in_err-rule.ensures)
 
 pub asked-opening-requires : goal.asked-opening-requires
 asked-opening-requires c =
-    let good = sizes-good (opening_of c.args.plan.now) (sym c.sizes_fault.ensures ∙ c.in_default.is) in
-    subst (λ (n : ℕ). n ≤ 16) (sym c.requires) (within-parts 1 16 c.args.plan.now.crew good.crew).1
+    let good = sizes_good (opening_of c.args.plan.now) (sym c.sizes_fault.ensures ∙ c.in_default.is) in
+    subst (λ (n : ℕ). n ≤ 16) (sym c.requires) (within_parts 1 16 c.args.plan.now.crew good.crew).1
 
 pub returns-in_err-group : goal.returns-in_err-group
 returns-in_err-group c =
     let o = opening_of c.args.plan.now in
     let p = err_from_is_err_and c.from_residual-in_err-group.result c.from_residual-in_err-group.ensures.1 in
     let none = sym c.sizes_fault.ensures ∙ c.in_default.is in
-    let asked = subst (λ (R : Rule). group.opening-fault R c.asked-opening.result ≡ Some c.in_err-group.field-0.0) c.in_ok-rule.ensures.1 c.in_err-group.ensures in
-    rw (p.1, p.2) (group-asked o none c.in_ok-rule.ensures.0 c.requires c.asked-opening.result c.asked-opening.ensures ∙ ap lifted asked)
+    let asked = subst (λ (R : Rule). group.opening_fault R c.asked-opening.result ≡ Some c.in_err-group.field-0.0) c.in_ok-rule.ensures.1 c.in_err-group.ensures in
+    rw (p.1, p.2) (group_asked o none c.in_ok-rule.ensures.0 c.requires c.asked-opening.result c.asked-opening.ensures ∙ ap lifted asked)
 
 pub returns : goal.returns
 returns c =
@@ -38,10 +38,10 @@ returns c =
     let same = c.in_ok-rule.ensures.1 in
     let made = c.in_ok-group.ensures in
     let g = c.in_ok-group.group in
-    let asked = subst (λ (R : Rule). group.opening-fault R a ≡ None) same made.0 in (
-      group-asked o none c.in_ok-rule.ensures.0 c.requires a c.asked-opening.ensures ∙ ap lifted asked,
+    let asked = subst (λ (R : Rule). group.opening_fault R a ≡ None) same made.0 in (
+      group_asked o none c.in_ok-rule.ensures.0 c.requires a c.asked-opening.ensures ∙ ap lifted asked,
       record {
-        rule = ap either-rule made.1 ∙ same;
+        rule = ap either_rule made.1 ∙ same;
         settles = settles o none c.in_ok-rule.ensures.0 c.requires a c.asked-opening.ensures g.terms (subst (λ (R : Rule). group.Settles R a g.terms) same made.2);
         reached = subst (λ (R : Rule). Reached R g.terms g.records []) same made.3;
       },

@@ -1,7 +1,7 @@
 use Rattle.std.proofs.Common.{◌+◌, ◌<◌, ◌≤◌, [], ◌∷◌, length, decimal, ap, ◌∙◌, arith}
 use Rattle.std.proofs.lemmas.List.{length_push}
-use Rattle.wire.specs.Writes.{put-at}
-use Rattle.wire.proofs.PutAt.{put_byte, put-put}
+use Rattle.wire.specs.Writes.{put_at}
+use Rattle.wire.proofs.PutAt.{put_byte, put_put}
 use Rattle.wire.proofs.number.put_field.Goals as goal
 
 pub put_number-place-requires : goal.put_number-place-requires
@@ -25,7 +25,7 @@ returns c =
       value = omega (arith, length_push digits end);
       buffer =
           put_byte c.put_number-place.result end c.put_number-place.new.buf inside
-          ∙ ap (λ k. put-at k (end ∷ []) c.put_number-place.new.buf) c.put_number-place.ensures.value
-          ∙ ap (put-at (at + length digits) (end ∷ [])) c.put_number-place.ensures.buffer
-          ∙ put-put at digits old fits (end ∷ []);
+          ∙ ap (λ k. put_at k (end ∷ []) c.put_number-place.new.buf) c.put_number-place.ensures.value
+          ∙ ap (put_at (at + length digits) (end ∷ [])) c.put_number-place.ensures.buffer
+          ∙ put_put at digits old fits (end ∷ []);
     }

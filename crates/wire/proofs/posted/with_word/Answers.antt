@@ -2,7 +2,7 @@ use Rattle.std.proofs.Common.{◌≡◌, ◌-◌, ◌*◌, ◌%◌, ◌^◌, len
 use lib.Bits.{bit_or}
 use Rattle.std.proofs.lemmas.Nat.{one_shl}
 use Rattle.wire.specs.Slips.{holds}
-use Rattle.wire.proofs.Slipped.{word-added}
+use Rattle.wire.proofs.Slipped.{word_added}
 use Rattle.wire.proofs.posted.with_word.Goals as goal
 
 pub returns : goal.returns
@@ -16,5 +16,5 @@ returns c =
       value = search rules;
       one_more = λ k v l h.
           ap (λ b. holds (record { group = p.group; change = p.change; sender = p.sender; kinds = set p.kinds (kind - 1) (bit_or (get_or p.kinds (kind - 1) 0) b) }) k v) bit
-          ∙ word-added p kind value (omega arith) (omega arith) five k v l h;
+          ∙ word_added p kind value (omega arith) (omega arith) five k v l h;
     }

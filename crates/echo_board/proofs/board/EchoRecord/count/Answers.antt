@@ -2,10 +2,10 @@
 use Rattle.std.proofs.Common.{◌≡◌, false, ◌∷◌, sym, ◌∙◌, arith}
 use Rattle.vote.specs.History.{seen}
 use Rattle.heard.specs.Repeats.{repeats}
-use Rattle.heard.specs.Shown.{setting, heard-of}
-use Rattle.echo_board.proofs.Facts.{board-keeps}
-use Rattle.echo_board.proofs.Memory.{heard-in}
-use Rattle.echo_board.proofs.Step.{step-repeat, step-new}
+use Rattle.heard.specs.Shown.{setting, heard_of}
+use Rattle.echo_board.proofs.Facts.{board_keeps}
+use Rattle.echo_board.proofs.Memory.{heard_in}
+use Rattle.echo_board.proofs.Step.{step_repeat, step_new}
 use Rattle.echo_board.proofs.board.EchoRecord.count.Goals as goal
 
 pub returns-then-repeats : goal.returns-then-repeats
@@ -13,9 +13,9 @@ returns-then-repeats g c =
     let S = setting (g.R.FailureRule.meaning c.args.rule.now) c.args.characters c.args.depth in
     record {
       counts = λ s h e.
-          step-repeat S s h c.args.vote c.args.self.now e
-          (sym (c.repeats.ensures S.rule.crew h (omega arith) (heard-in S s h c.args.self.now e)) ∙ c.if-repeats.true);
-      keeps = board-keeps S (g.met.R.FailureRule.lawful c.args.rule.now);
+          step_repeat S s h c.args.vote c.args.self.now e
+          (sym (c.repeats.ensures S.rule.crew h (omega arith) (heard_in S s h c.args.self.now e)) ∙ c.if-repeats.true);
+      keeps = board_keeps S (g.met.R.FailureRule.lawful c.args.rule.now);
     }
 
 pub returns : goal.returns
@@ -23,9 +23,9 @@ returns g c =
     let S = setting (g.R.FailureRule.meaning c.args.rule.now) c.args.characters c.args.depth in
     record {
       counts = λ s h e.
-          let shown = heard-in S s h c.args.self.now e in
+          let shown = heard_in S s h c.args.self.now e in
           let new : repeats h c.args.vote ≡ false = sym (c.repeats.ensures S.rule.crew h (omega arith) shown) ∙ c.if-repeats.false in
-          let noted : c.note.new.self ≡ heard-of S.rule.crew (seen (c.args.vote ∷ h)) = c.note.ensures S.rule.crew h (omega arith) shown in
-          step-new S s h c.args.vote c.args.self.now e new noted (c.find-found.ensures (seen (c.args.vote ∷ h)) noted) c.remember.ensures.after c.remember.ensures.news;
-      keeps = board-keeps S (g.met.R.FailureRule.lawful c.args.rule.now);
+          let noted : c.note.new.self ≡ heard_of S.rule.crew (seen (c.args.vote ∷ h)) = c.note.ensures S.rule.crew h (omega arith) shown in
+          step_new S s h c.args.vote c.args.self.now e new noted (c.find-found.ensures (seen (c.args.vote ∷ h)) noted) c.remember.ensures.after c.remember.ensures.news;
+      keeps = board_keeps S (g.met.R.FailureRule.lawful c.args.rule.now);
     }

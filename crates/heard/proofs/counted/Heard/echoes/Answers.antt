@@ -3,11 +3,11 @@ use Rattle.std.proofs.Common.{◌∙◌, ap₂}
 use mir.Val.{bool_byte}
 use lib.Bits.{bit_or}
 use Rattle.agreement.specs.Echo.{echoes}
-use Rattle.heard.proofs.Made.{echoes-is}
+use Rattle.heard.proofs.Made.{echoes_is}
 use Rattle.heard.proofs.counted.Heard.echoes.Goals as goal
 
 pub returns : goal.returns
 unfolding echoes
 returns g c = λ d x e.
     ap₂ (λ a b. bit_or a (bool_byte b)) c.strong_values-strong.ensures (c.parted.ensures d x e)
-    ∙ echoes-is (g.R.FailureRule.meaning c.args.rule.now) c.args.characters c.requires c.args.self.now x e _
+    ∙ echoes_is (g.R.FailureRule.meaning c.args.rule.now) c.args.characters c.requires c.args.self.now x e _

@@ -1,8 +1,8 @@
 -- By the definition of the test 4. Assumes nothing.
-use Rattle.heard.proofs.Tested.{third-made}
+use Rattle.heard.proofs.Tested.{third_made}
 use Rattle.heard.proofs.counted.Heard.third.Goals as goal
 
 pub returns : goal.returns
 returns g c = λ d x e.
-    third-made (g.R.FailureRule.meaning c.args.rule.now) c.args.characters c.requires c.args.self.now d x e
+    third_made (g.R.FailureRule.meaning c.args.rule.now) c.args.characters c.requires c.args.self.now d x e
     c.or.ensures c.lowest_ample-shared.ensures c.then_some.ensures (c.two_approved.ensures d x e)

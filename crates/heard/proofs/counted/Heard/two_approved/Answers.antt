@@ -1,7 +1,7 @@
 -- Two values are approved where one above the lowest is. Assumes nothing.
 use Rattle.std.proofs.Common.{suc, ◌<◌, sym, ◌∙◌, arith}
 use Rattle.vote.proofs.Seeking.{seek_found}
-use Rattle.heard.proofs.Tested.{two-made-none, two-made-some}
+use Rattle.heard.proofs.Tested.{two_made_none, two_made_some}
 use Rattle.heard.proofs.counted.Heard.two_approved.Goals as goal
 
 pub overflow_add-u : goal.overflow_add-u
@@ -9,9 +9,9 @@ overflow_add-u g c = let k : c.in-Some.u < suc c.args.characters = (seek_found (
 
 pub returns-in-None : goal.returns-in-None
 returns-in-None g c = λ d x e.
-    two-made-none (g.R.FailureRule.meaning c.args.rule.now) c.args.characters c.requires c.args.self.now d x e c.lowest_ample.ensures c.in-None.is
+    two_made_none (g.R.FailureRule.meaning c.args.rule.now) c.args.characters c.requires c.args.self.now d x e c.lowest_ample.ensures c.in-None.is
 
 pub returns-in-Some : goal.returns-in-Some
 returns-in-Some g c = λ d x e.
-    two-made-some (g.R.FailureRule.meaning c.args.rule.now) c.args.characters c.requires c.args.self.now d x e c.in-Some.u c.lowest_ample.ensures c.in-Some.is
+    two_made_some (g.R.FailureRule.meaning c.args.rule.now) c.args.characters c.requires c.args.self.now d x e c.in-Some.u c.lowest_ample.ensures c.in-Some.is
     c.lowest_ample-in-Some.ensures c.is_some.ensures

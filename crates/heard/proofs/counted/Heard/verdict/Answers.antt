@@ -2,7 +2,7 @@
 use Rattle.std.proofs.Common.{◌≡◌, cond, ◌&&◌, None, sym, ◌∙◌}
 use Rattle.std.proofs.lemmas.Bool.{cond-true, cond-false}
 use Rattle.agreement.specs.Echo.{decides}
-use Rattle.heard.proofs.Tested.{held-made, verdict-made}
+use Rattle.heard.proofs.Tested.{held_made, verdict_made}
 use Rattle.heard.proofs.counted.Heard.verdict.Goals as goal
 use Rattle.heard.proofs.counted.Heard.verdict.Goals.{then-late, else-late}
 
@@ -12,7 +12,7 @@ returns g c = λ d x e.
       | then-late w ↦ w.held-is ∙ w.decision-held.ensures ∙ sym (cond-true _ _ _ w.if-late.true)
       | else-late w ↦ w.held-is ∙ sym (cond-false _ _ _ w.if-late.false)
     ] in
-    verdict-made (g.R.FailureRule.meaning c.args.rule.now) c.args.characters c.requires c.args.self.now d x e
+    verdict_made (g.R.FailureRule.meaning c.args.rule.now) c.args.characters c.requires c.args.self.now d x e
     c.or-2.ensures c.decision-full.ensures c.lowest_ample.ensures c.or.ensures
-    (held-made (g.R.FailureRule.meaning c.args.rule.now) c.args.characters c.requires c.args.self.now d x e held (c.mixed.ensures d x e) c.ample.ensures.value c.lowest_backed-backed.ensures)
+    (held_made (g.R.FailureRule.meaning c.args.rule.now) c.args.characters c.requires c.args.self.now d x e held (c.mixed.ensures d x e) c.ample.ensures.value c.lowest_backed-backed.ensures)
     c.then_some-nothing.ensures c.ample-2.ensures.value

@@ -2,38 +2,38 @@
 use Rattle.std.proofs.Common.{◌≤◌, true, false, sym, ◌∙◌, arith}
 use Rattle.plain_board.specs.Shown.{setting}
 use Rattle.plain_board.specs.Step.{Counts}
-use Rattle.plain_board.specs.Marks.{Plain-marks}
-use Rattle.plain_board.proofs.Kept.{marks-hold}
-use Rattle.plain_board.proofs.Reading.{ample-too}
-use Rattle.plain_board.proofs.Moves.{as-made, again, first-waits, first-fixes, second-waits, first-late, second-compares, first-after, second-after}
+use Rattle.plain_board.specs.Marks.{PlainMarks}
+use Rattle.plain_board.proofs.Kept.{marks_hold}
+use Rattle.plain_board.proofs.Reading.{ample_too}
+use Rattle.plain_board.proofs.Moves.{as_made, again, first_waits, first_fixes, second_waits, first_late, second_compares, first_after, second_after}
 use Rattle.plain_board.proofs.record.PlainRecord.count.Goals as goal
 use Rattle.plain_board.proofs.record.PlainRecord.count.Goals.{in-Gathering-eq1+else-ample, in-Gathering-default, in-Comparing-eq1, in-Comparing-default, in-Decided-eq1, in-Decided-default}
 
 pub returns-then-repeats : goal.returns-then-repeats
-unfolding Counts Plain-marks
+unfolding Counts PlainMarks
 returns-then-repeats g c = record {
   shows = λ h low e.
       let S = setting (g.R.FailureRule.meaning c.args.rule.now) c.args.characters c.args.depth in
       again S c.args.vote h c.args.self.now e (sym (c.repeats.ensures S h (omega arith) e) ∙ c.if-repeats.true);
-  marks = marks-hold (setting (g.R.FailureRule.meaning c.args.rule.now) c.args.characters c.args.depth);
+  marks = marks_hold (setting (g.R.FailureRule.meaning c.args.rule.now) c.args.characters c.args.depth);
 }
 
 pub returns-then-ample : goal.returns-then-ample
-unfolding Counts Plain-marks
+unfolding Counts PlainMarks
 returns-then-ample g c = record {
   shows = λ h low e.
       let R = g.R.FailureRule.meaning c.args.rule.now in
       let S = setting R c.args.characters c.args.depth in
       let few : c.common-branch.result ≤ 8 = omega (arith, c.common-branch.ensures.low) in
       let fresh = sym (c.repeats.ensures S h (omega arith) e) ∙ c.if-repeats.false in
-      first-fixes S c.args.vote h c.args.self.now e (omega arith) fresh c.in-Gathering-eq1.is-0 c.on_branch.result
-      c.in-Gathering-eq1.is-1 c.add.new.self c.add.ensures (ample-too R true c.all.result c.add.new.self.all c.if-ample.ensures.value c.all.ensures)
+      first_fixes S c.args.vote h c.args.self.now e (omega arith) fresh c.in-Gathering-eq1.is-0 c.on_branch.result
+      c.in-Gathering-eq1.is-1 c.add.new.self c.add.ensures (ample_too R true c.all.result c.add.new.self.all c.if-ample.ensures.value c.all.ensures)
       c.common-branch.result few c.common-branch.ensures.value c.stage_on-self.result c.stage_on-self.ensures c.on_branch.ensures;
-  marks = marks-hold (setting (g.R.FailureRule.meaning c.args.rule.now) c.args.characters c.args.depth);
+  marks = marks_hold (setting (g.R.FailureRule.meaning c.args.rule.now) c.args.characters c.args.depth);
 }
 
 pub returns : goal.returns
-unfolding Counts Plain-marks
+unfolding Counts PlainMarks
 returns g c = record {
   shows = λ h low e.
       let R = g.R.FailureRule.meaning c.args.rule.now in
@@ -41,29 +41,29 @@ returns g c = record {
       let fresh = sym (c.repeats.ensures S h (omega arith) e) ∙ c.if-repeats.false in
       elim c.match-self.branch [
         | in-Gathering-eq1+else-ample w ↦
-            as-made S c.args.vote h _ _ _ w.self-is
-            (first-waits S c.args.vote h c.args.self.now e (omega arith) fresh w.in-Gathering-eq1.is-0 c.none.result
-            w.in-Gathering-eq1.is-1 w.add.new.self w.add.ensures (ample-too R false w.all.result w.add.new.self.all w.if-ample.ensures.value w.all.ensures) c.none.ensures)
+            as_made S c.args.vote h _ _ _ w.self-is
+            (first_waits S c.args.vote h c.args.self.now e (omega arith) fresh w.in-Gathering-eq1.is-0 c.none.result
+            w.in-Gathering-eq1.is-1 w.add.new.self w.add.ensures (ample_too R false w.all.result w.add.new.self.all w.if-ample.ensures.value w.all.ensures) c.none.ensures)
         | in-Gathering-default w ↦
-            as-made S c.args.vote h _ _ _ w.self-is
-            (second-waits S c.args.vote h c.args.self.now e (omega arith) fresh w.in-Gathering-default.is-0 c.none.result
+            as_made S c.args.vote h _ _ _ w.self-is
+            (second_waits S c.args.vote h c.args.self.now e (omega arith) fresh w.in-Gathering-default.is-0 c.none.result
             (g.met.R.FailureRule.lawful c.args.rule.now) low (omega arith) w.add-in-Gathering-default.new.self w.add-in-Gathering-default.ensures c.none.ensures)
         | in-Comparing-eq1 w ↦
-            as-made S c.args.vote h _ _ _ w.self-is
-            (first-late S c.args.vote h c.args.self.now e (omega arith) fresh _ w.in-Comparing-eq1.is-0 c.none.result c.none.ensures
+            as_made S c.args.vote h _ _ _ w.self-is
+            (first_late S c.args.vote h c.args.self.now e (omega arith) fresh _ w.in-Comparing-eq1.is-0 c.none.result c.none.ensures
             w.in-Comparing-eq1.is-1 w.add-in-Comparing-eq1.new.self w.add-in-Comparing-eq1.ensures)
         | in-Comparing-default w ↦
-            as-made S c.args.vote h _ _ _ w.self-is
-            (second-compares S c.args.vote h c.args.self.now e (omega arith) fresh w.in-Comparing-default.branch w.in-Comparing-default.is-0 c.none.result c.none.ensures
+            as_made S c.args.vote h _ _ _ w.self-is
+            (second_compares S c.args.vote h c.args.self.now e (omega arith) fresh w.in-Comparing-default.branch w.in-Comparing-default.is-0 c.none.result c.none.ensures
             (omega arith) (omega arith) w.add-in-Comparing-default.new.self w.add-in-Comparing-default.ensures w.stage_on-self-in-Comparing-default.result w.stage_on-self-in-Comparing-default.ensures)
         | in-Decided-eq1 w ↦
-            as-made S c.args.vote h _ _ _ w.self-is
-            (first-after S c.args.vote h c.args.self.now e (omega arith) fresh _ _ w.in-Decided-eq1.is-0 c.none.result c.none.ensures
+            as_made S c.args.vote h _ _ _ w.self-is
+            (first_after S c.args.vote h c.args.self.now e (omega arith) fresh _ _ w.in-Decided-eq1.is-0 c.none.result c.none.ensures
             w.in-Decided-eq1.is-1 w.add-in-Decided-eq1.new.self w.add-in-Decided-eq1.ensures)
         | in-Decided-default w ↦
-            as-made S c.args.vote h _ _ _ w.self-is
-            (second-after S c.args.vote h c.args.self.now e (omega arith) fresh _ _ w.in-Decided-default.is-0 c.none.result c.none.ensures
+            as_made S c.args.vote h _ _ _ w.self-is
+            (second_after S c.args.vote h c.args.self.now e (omega arith) fresh _ _ w.in-Decided-default.is-0 c.none.result c.none.ensures
             (omega arith) w.add-in-Decided-default.new.self w.add-in-Decided-default.ensures)
       ];
-  marks = marks-hold (setting (g.R.FailureRule.meaning c.args.rule.now) c.args.characters c.args.depth);
+  marks = marks_hold (setting (g.R.FailureRule.meaning c.args.rule.now) c.args.characters c.args.depth);
 }

@@ -1,11 +1,11 @@
 use Rattle.std.proofs.Common.{[]}
-use Rattle.session.specs.Standing.{stands-after}
+use Rattle.session.specs.Standing.{stands_after}
 use Rattle.session.proofs.session.Session.new.Goals as goal
 
 pub invariant_of-result : goal.invariant_of-result
-unfolding stands-after
+unfolding stands_after
 invariant_of-result c = record { led = ∣ ([], tt) ∣₁ }
 
 pub returns : goal.returns
-unfolding stands-after
+unfolding stands_after
 returns c = tt

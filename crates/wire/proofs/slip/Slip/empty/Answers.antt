@@ -1,11 +1,11 @@
 use Rattle.std.proofs.Common.{Ok, ap, ◌∙◌}
-use Rattle.wire.specs.Slips.{word_of, none-posted}
-use Rattle.wire.specs.Writes.{range-fault, unless}
-use Rattle.wire.proofs.Slipped.{made-empty, none-posted-none}
+use Rattle.wire.specs.Slips.{word_of, none_posted}
+use Rattle.wire.specs.Writes.{range_fault, unless}
+use Rattle.wire.proofs.Slipped.{made_empty, none_posted_none}
 use Rattle.wire.proofs.slip.Slip.empty.Goals as goal
 
 pub returns : goal.returns
 returns c =
-    let p = none-posted c.args.group c.args.change c.args.sender in
-    let made = c.holding.ensures ∙ ap (λ q. unless (range-fault (word_of q 1 0)) (Ok q)) c.none_posted.ensures in
-    record { value = made; no_words = made-empty c.holding.result (range-fault (word_of p 1 0)) p made (none-posted-none c.args.group c.args.change c.args.sender) }
+    let p = none_posted c.args.group c.args.change c.args.sender in
+    let made = c.holding.ensures ∙ ap (λ q. unless (range_fault (word_of q 1 0)) (Ok q)) c.none_posted.ensures in
+    record { value = made; no_words = made_empty c.holding.result (range_fault (word_of p 1 0)) p made (none_posted_none c.args.group c.args.change c.args.sender) }
