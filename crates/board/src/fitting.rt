@@ -9,7 +9,7 @@ ghost use Rattle.board.specs.Taking.{word_taken};
 
 use crate::answer::Taken;
 use crate::fault::BoardFault;
-use crate::fit::{Fit, Fitting};
+use crate::fit::Fitting;
 use crate::record::Record;
 use crate::step::step;
 use crate::taking::word_taken;
@@ -47,13 +47,12 @@ fn told(fitting: &Fitting, news: Option<News>) -> (Taken, Slip)
 }
 
 // The record of a board that has counted nothing.
-fn first_record(fit: &Fit) -> Record
-    requires { fit.now.start ≤ 8 }
-    ensures { (R : Rule) → result ≡ record_of R fit.now [] }
+fn first_record(fitting: &Fitting) -> Record
+    ensures { (R : Rule) → result ≡ record_of R fitting.now.fit [] }
 {
-    match fit.method {
+    match fitting.fit.method {
         Method::Plain => Record::Gathers(PlainRecord::start()),
-        Method::Echo => Record::Echoes(EchoRecord::start(fit.start)),
+        Method::Echo => Record::Echoes(EchoRecord::start(fitting.fit.start)),
     }
 }
 
@@ -62,7 +61,7 @@ impl Fitting {
     pub fn record(&self) -> Record
         ensures { (R : Rule) → result ≡ record_of R self.now.fit [] }
     {
-        first_record(&self.fit)
+        first_record(self)
     }
 
     // The slip that goes with the start: it has the board's first word.
@@ -84,14 +83,13 @@ impl Fitting {
         ensures accepted { IfOk result (λ x. Accepts (R.meaning rule.now) self.now.fit port bytes.now state.old state.new x.0 x.1.posted) }
         ensures refused { IfErr result (λ e. (word_taken (R.meaning rule.now) self.now.fit port bytes.now ≡ Err e) × (state.new ≡ state.old)) }
     {
-        let fit = self.fit;
-        let word = word_taken(rule, &fit, port, bytes)?;
+        let word = word_taken(rule, &self.fit, port, bytes)?;
         let vote = Vote {
             sender: word.sender,
             kind: word.kind,
             value: word.value,
         };
-        let (counted, news) = step(rule, &fit, *state, vote);
+        let (counted, news) = step(rule, self, *state, vote);
         *state = counted;
         Ok(told(self, news))
     }

@@ -3,7 +3,7 @@ ghost use Rattle.std.specs.Prelude.{◌≡◌, ℕ, ◌<◌, ◌≤◌};
 ghost use Rattle.board.specs.Shown.{Counts};
 ghost use Rattle.board.specs.Taking.{kinds_used};
 
-use crate::fit::Fit;
+use crate::fit::Fitting;
 use crate::record::Record;
 use quorum::FailureRule;
 use vote::{Method, News, Vote};
@@ -11,15 +11,15 @@ use vote::{Method, News, Vote};
 // Counts a vote that the caller has checked: the record with it, and what is newly posted, or None where it is counted already.
 pub(crate) fn step<R: FailureRule>(
     rule: &R,
-    fit: &Fit,
+    fitting: &Fitting,
     state: Record,
     vote: Vote,
 ) -> (Record, Option<News>)
     requires rule { ((R.meaning rule.now).crew ≤ 16) × (1 ≤ (R.meaning rule.now).cover) }
-    requires fit { fit.now.characters ≤ 8 }
-    requires vote { (vote.sender < (R.meaning rule.now).crew) × ((1 ≤ vote.kind) × ((vote.kind ≤ kinds_used fit.now.method fit.now.depth) × (vote.value ≤ fit.now.characters))) }
-    ensures { Counts (R.meaning rule.now) fit.now vote state result.0 result.1 }
+    requires vote { (vote.sender < (R.meaning rule.now).crew) × ((1 ≤ vote.kind) × ((vote.kind ≤ kinds_used fitting.now.fit.method fitting.now.fit.depth) × (vote.value ≤ fitting.now.fit.characters))) }
+    ensures { Counts (R.meaning rule.now) fitting.now.fit vote state result.0 result.1 }
 {
+    let fit = &fitting.fit;
     // a record of the other method shows no history of this board
     match fit.method {
         Method::Plain => match state {

@@ -5,7 +5,7 @@ use Rattle.board.proofs.Steps.{plain_shows, echo_shows}
 use Rattle.board.proofs.fitting.first_record.Goals as goal
 
 pub returns-in-Plain : goal.returns-in-Plain
-returns-in-Plain c R = ap Gathers (c.start.ensures (setting_of R c.args.fit.now)) ∙ sym (plain_shows R c.args.fit.now [] c.in-Plain.is)
+returns-in-Plain c R = ap Gathers (c.start.ensures (setting_of R c.args.fitting.now.fit)) ∙ sym (plain_shows R c.args.fitting.now.fit [] c.in-Plain.is)
 
 pub returns-in-Echo : goal.returns-in-Echo
-returns-in-Echo c R = ap Echoes (c.start-in-Echo.ensures (setting_of R c.args.fit.now)) ∙ sym (echo_shows R c.args.fit.now [] c.in-Echo.is)
+returns-in-Echo c R = ap Echoes (c.start-in-Echo.ensures (setting_of R c.args.fitting.now.fit)) ∙ sym (echo_shows R c.args.fitting.now.fit [] c.in-Echo.is)

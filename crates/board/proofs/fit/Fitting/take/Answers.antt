@@ -1,6 +1,5 @@
 use Rattle.std.proofs.Common.{◌≡◌, Ok, sym, rules}
 use Rattle.board.specs.Taking.{word_taken}
-use Rattle.board.proofs.Slips.{characters_low}
 use Rattle.board.proofs.Words.{good_word, taken_is}
 use Rattle.wire.proofs.FrameText.{word_is}
 use Rattle.board.proofs.fit.Fitting.take.Goals as goal
@@ -11,7 +10,7 @@ step-counted-requires g c =
     let f = c.args.self.now.fit in
     let taken : word_taken R f c.args.port c.args.bytes.now ≡ Ok c.in_ok-word.word = sym c.in_ok-word.ensures in
     let w = good_word R f c.args.port c.args.bytes.now c.in_ok-word.word taken in
-    record { rule = (w.crew_high, w.cover_low); fit = characters_low f c.args.self.now.sound; vote = (w.sender_low, (w.kind_low, (w.kind_high, w.value_high))) }
+    record { rule = (w.crew_high, w.cover_low); vote = (w.sender_low, (w.kind_low, (w.kind_high, w.value_high))) }
 
 pub returns-clause-accepted : goal.returns-clause-accepted
 returns-clause-accepted g c =
