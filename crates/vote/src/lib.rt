@@ -1,10 +1,9 @@
 // What a board says, decides and orders: the plain data of the vote, and, in specs/, what a board has counted, as a list, and what a method is.
 // How a board stores what it has counted, how words travel and how boards are joined is left to the crates above.
 
-// One word as a board counts it. Group and change are the board's own.
-
 #![tactic(auto)]
 
+// One word as a board counts it. Group and change are the board's own.
 #[derive(Clone, Copy, PartialEq, Eq, Debug)]
 pub struct Vote {
     pub sender: u8,
