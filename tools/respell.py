@@ -84,7 +84,9 @@ def main():
     files += [(f, antt) for f in glob.glob("crates/*/proofs/**/*.antt", recursive=True)]
     files += [(f, rt) for f in glob.glob("crates/*/src/**/*.rt", recursive=True)]
     files += [(f, lambda t: code(t, set())) for f in glob.glob("crates/*/must-fail/*.edit")]
-    files += [(f, page) for f in glob.glob("docs/**/*.md", recursive=True) + ["README.md"]]
+    # docs/PORT.md names the old spellings
+    pages = [f for f in glob.glob("docs/**/*.md", recursive=True) if f != "docs/PORT.md"]
+    files += [(f, page) for f in [*pages, "README.md"]]
     changed = 0
     for name, turn in sorted(files, key=lambda it: it[0]):
         with open(name, encoding="utf-8") as f:

@@ -84,11 +84,11 @@ third_failed true false g x y z p q e = clash q refl
 third_failed false b g x y z p q e = clash p refl
 
 module _ {R : Rule} {T : Terms} (law : Lawful R) (accepted : Opened R T) where
-  abbrev M : Protocol
-  M = method_in R T
+  abbrev protocol : Protocol
+  protocol = method_in R T
 
   honest : (i : ℕ) → Steady R T i → lies R T i ≡ false
-  honest i si = ap (λ (b : Bool). M.may_lie && b) si.1 ∙ none M.may_lie
+  honest i si = ap (λ (b : Bool). protocol.may_lie && b) si.1 ∙ none protocol.may_lie
     where
       none : (b : Bool) → (b && false) ≡ false
       none true = refl
@@ -120,16 +120,16 @@ module _ {R : Rule} {T : Terms} (law : Lawful R) (accepted : Opened R T) where
       )
 
   -- ---- counts
-  passes : (r : List Event) (i j c v : ℕ) → Steady R T i → Steady R T j → given (start_of r j) ≡ true → posted M r i c v ≡ true → carry_fault R T r j i c v ≡ None
+  passes : (r : List Event) (i j c v : ℕ) → Steady R T i → Steady R T j → given (start_of r j) ≡ true → posted protocol r i c v ≡ true → carry_fault R T r j i c v ≡ None
   unfolding carry_fault
   passes r i j c v si sj begun p =
-      let s = posted_found M r i c v p in
+      let s = posted_found protocol r i c v p in
       cond-true (ltb j R.crew && ltb i R.crew) _ _ (and_from _ _ (lt-ltb j R.crew sj.0) (lt-ltb i R.crew si.0))
       ∙ (cond-true (not (lies R T j || lies R T i)) _ _ (ap₂ (λ (a b : Bool). not (a || b)) (honest j sj) (honest i si))
       ∙ (cond-true (given (start_of r j) && given (start_of r i)) _ _ (and_from _ _ begun (given_from s.1))
-      ∙ cond-true (posted M r i c v) _ _ p))
+      ∙ cond-true (posted protocol r i c v) _ _ p))
 
-  carried : (xs : List Call) (i j c v : ℕ) → Steady R T i → Steady R T j → given (start_of (run_of R T xs) j) ≡ true → posted M (run_of R T xs) i c v ≡ true
+  carried : (xs : List Call) (i j c v : ℕ) → Steady R T i → Steady R T j → given (start_of (run_of R T xs) j) ≡ true → posted protocol (run_of R T xs) i c v ≡ true
       → counted (history (run_of R T xs) j) c v i ≡ false → run_of R T (carrying j i c v ∷ xs) ≡ counts j (record { sender = i; kind = c; value = v }) ∷ run_of R T xs
   unfolding run_of next crew word
   carried xs i j c v si sj begun p n =
@@ -140,7 +140,7 @@ module _ {R : Rule} {T : Terms} (law : Lawful R) (accepted : Opened R T) where
       ∙ cond-false (repeats T.method (history r j) (record { sender = i; kind = c; value = v })) r _ (fresh (setting_in R T) r i j c v T.method (crew law accepted) lg (si.0, honest i si) p n))
 
   left : List Event → ℕ
-  left r = uncounted M (crew law accepted) (bounded T.method (setting_in R T)) r
+  left r = uncounted protocol (crew law accepted) (bounded T.method (setting_in R T)) r
 
   abbrev Done : List Call → Type 0
   Done xs = AllStarted R T xs × AllCounted R T xs
@@ -152,23 +152,23 @@ module _ {R : Rule} {T : Terms} (law : Lawful R) (accepted : Opened R T) where
       let lg = run_legal law accepted xs in
       let bd = bounded T.method (setting_in R T) in
       ⊎_elim
-      (λ d. absurd (let q = fewer M (crew law accepted) bd r d.0 d.1 d.2 d.3 d.4.0 d.5.0 d.6 d.7 d.9 in let n : ⊥ = omega (arith, l, q) in n))
+      (λ d. absurd (let q = fewer protocol (crew law accepted) bd r d.0 d.1 d.2 d.3 d.4.0 d.5.0 d.6 d.7 d.9 in let n : ⊥ = omega (arith, l, q) in n))
       (λ a. ([], (begun, a)))
-      (due_or M (crew law accepted) bd r lg)
+      (due_or protocol (crew law accepted) bd r lg)
   count_all (suc fuel) xs l begun =
       let r = run_of R T xs in
       let lg = run_legal law accepted xs in
       let bd = bounded T.method (setting_in R T) in
       ⊎_elim
       (λ d.
-      let q = fewer M (crew law accepted) bd r d.0 d.1 d.2 d.3 d.4.0 d.5.0 d.6 d.7 d.9 in
+      let q = fewer protocol (crew law accepted) bd r d.0 d.1 d.2 d.3 d.4.0 d.5.0 d.6 d.7 d.9 in
       let x = carrying d.1 d.0 d.2 d.3 in
       let e = carried xs d.0 d.1 d.2 d.3 d.4 d.5 (begun d.1 d.5) d.8 d.9 in
       let less : left (run_of R T (x ∷ xs)) ≤ fuel = subst (λ (y : List Event). left y ≤ fuel) (sym e) (omega (arith, l, q)) in
       let z = count_all fuel (x ∷ xs) less (λ i si. after_call xs x i (begun i si)) in
       (z.0 ++ x ∷ [], subst Done (sym (append_assoc z.0 (x ∷ []) xs)) z.1))
       (λ a. ([], (begun, a)))
-      (due_or M (crew law accepted) bd r lg)
+      (due_or protocol (crew law accepted) bd r lg)
 
   pub all_can_be_counted : (xs : List Call) → (ys : List Call) × Done (ys ++ xs)
   all_can_be_counted xs =

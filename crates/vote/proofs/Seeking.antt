@@ -97,16 +97,16 @@ some_in n p = ⊎_elim some none (cases_Bool (given (seek n p)))
 
 -- ---- two that pass, by the lowest of them
 module _ (n : ℕ) (p : ℕ → Bool) where
-  abbrev Both : Bool
-  Both = given (seek n (λ u. p u && given (seek n (λ v. p v && not (eqb u v)))))
+  abbrev both : Bool
+  both = given (seek n (λ u. p u && given (seek n (λ v. p v && not (eqb u v)))))
 
-  pub two_none : seek n p ≡ None → false ≡ Both
-  two_none e = sym (false_unless Both (λ t. let a = given_found _ t in let b = seek_found n _ a.0 a.1 in clash (seek_from n p a.0 b.0 (and_parts (p a.0) _ b.1).0) (ap given e)))
+  pub two_none : seek n p ≡ None → false ≡ both
+  two_none e = sym (false_unless both (λ t. let a = given_found _ t in let b = seek_found n _ a.0 a.1 in clash (seek_from n p a.0 b.0 (and_parts (p a.0) _ b.1).0) (ap given e)))
 
-  pub two_some : (u : ℕ) → seek n p ≡ Some u → given (seek n (λ v. leb (u + 1) v && p v)) ≡ Both
+  pub two_some : (u : ℕ) → seek n p ≡ Some u → given (seek n (λ v. leb (u + 1) v && p v)) ≡ both
   two_some u e = same_truth _ _ into back
     where
-      into : given (seek n (λ v. leb (u + 1) v && p v)) ≡ true → Both ≡ true
+      into : given (seek n (λ v. leb (u + 1) v && p v)) ≡ true → both ≡ true
       into t =
           let a = given_found _ t in
           let b = seek_found n _ a.0 a.1 in
@@ -118,7 +118,7 @@ module _ (n : ℕ) (p : ℕ → Bool) where
       above : (v : ℕ) → v < n → p v ≡ true → (v ≡ u → ⊥) → given (seek n (λ v. leb (u + 1) v && p v)) ≡ true
       above v h q ne = let m = seek_least n p u v e h q in seek_from n _ v h (and_from _ _ (le-leb (u + 1) v (omega arith)) q)
 
-      back : Both ≡ true → given (seek n (λ v. leb (u + 1) v && p v)) ≡ true
+      back : both ≡ true → given (seek n (λ v. leb (u + 1) v && p v)) ≡ true
       back t =
           let a = given_found _ t in
           let b = seek_found n _ a.0 a.1 in

@@ -20,26 +20,26 @@ use Rattle.agreement.proofs.Echo.Heard.{passed_character, third_character, says_
 module _ {S : Setting} (three : 3 ≤ S.rule.cover) (C : Crew S) where
   -- ---- one run
   module _ (r : List Event) (lg : Legal (echo S) C r) where
-    abbrev H : ℕ → List Vote
-    H j = history r j
+    abbrev history_of : ℕ → List Vote
+    history_of j = history r j
 
     -- a character that is decided has ample senders of kind 3 at some board
-    root : (p : Depth) (j : ℕ) (d : Decision) → d.value ≢ 0 → Justified S p (H j) d → (i : ℕ) × Ample S (says (seen (H i)) 3 d.value)
-    root One j d nz a = (j, passed_character S 3 (H j) d.value nz a.0)
+    root : (p : Depth) (j : ℕ) (d : Decision) → d.value ≢ 0 → Justified S p (history_of j) d → (i : ℕ) × Ample S (says (seen (history_of i)) 3 d.value)
+    root One j d nz a = (j, passed_character S 3 (history_of j) d.value nz a.0)
     root Two j d nz (inl a) =
         let k = ample_said C three r lg 5 refl j d.value a.2 in
-        let l = ample_said C three r lg 4 refl k.0 d.value (passed_character S 4 (H k.0) d.value nz (fifth_sound S C.lawful (H k.0) d.value k.2)) in
-        (l.0, passed_character S 3 (H l.0) d.value nz (fourth_sound S C.lawful (H l.0) d.value l.2))
+        let l = ample_said C three r lg 4 refl k.0 d.value (passed_character S 4 (history_of k.0) d.value nz (fifth_sound S C.lawful (history_of k.0) d.value k.2)) in
+        (l.0, passed_character S 3 (history_of l.0) d.value nz (fourth_sound S C.lawful (history_of l.0) d.value l.2))
     root Two j d nz (inr (inl b)) =
         let k = strong_steady (echo S) C _ b.4 in
-        (k.0, passed_character S 3 (H k.0) d.value nz (fourth_sound S C.lawful (H k.0) d.value (heard_said C three r lg 4 refl j k.0 d.value k.1 k.2)))
+        (k.0, passed_character S 3 (history_of k.0) d.value nz (fourth_sound S C.lawful (history_of k.0) d.value (heard_said C three r lg 4 refl j k.0 d.value k.1 k.2)))
     root Two j d nz (inr (inr c)) = absurd (nz c.0.0)
 
     -- two characters that are decided are equal
-    one_decided : (p : Depth) (i j : ℕ) (d e : Decision) → d.value ≢ 0 → e.value ≢ 0 → Justified S p (H i) d → Justified S p (H j) e → d.value ≡ e.value
+    one_decided : (p : Depth) (i j : ℕ) (d e : Decision) → d.value ≢ 0 → e.value ≢ 0 → Justified S p (history_of i) d → Justified S p (history_of j) e → d.value ≡ e.value
     one_decided p i j d e nd ne a b = let k = root p i d nd a in let l = root p j e ne b in agree C three r lg 3 refl k.0 l.0 _ _ k.1 l.1
 
-    near : (p : Depth) (i j : ℕ) (d e : Decision) → Justified S p (H i) d → Justified S p (H j) e → AtMostOneStep d e
+    near : (p : Depth) (i j : ℕ) (d e : Decision) → Justified S p (history_of i) d → Justified S p (history_of j) e → AtMostOneStep d e
     near One i j d e (a, inl x) (b, inl y) = both_none d e x y
     near One i j d e (a, inl x) (b, inr y) = inr (inl (inl (x, y.1)))
     near One i j d e (a, inr x) (b, inl y) = inr (inr (inl (y, x.1)))
@@ -56,26 +56,26 @@ module _ {S : Setting} (three : 3 ≤ S.rule.cover) (C : Crew S) where
 
     pub echo_close : (i j : ℕ) (d e : Decision) → decision (echo S) r i ≡ Some d → decision (echo S) r j ≡ Some e → AtMostOneStep d e
     unfolding decision
-    echo_close i j d e p q = near S.depth i j d e (decided_sound S C.lawful (H i) d p) (decided_sound S C.lawful (H j) e q)
+    echo_close i j d e p q = near S.depth i j d e (decided_sound S C.lawful (history_of i) d p) (decided_sound S C.lawful (history_of j) e q)
 
     -- ---- what a decision stands on
     -- the characters posted in kind 3 are equal
-    pub thirds_agree : (i j u v : ℕ) → u ≢ 0 → v ≢ 0 → said S (H i) 3 ≡ Some u → said S (H j) 3 ≡ Some v → u ≡ v
+    pub thirds_agree : (i j u v : ℕ) → u ≢ 0 → v ≢ 0 → said S (history_of i) 3 ≡ Some u → said S (history_of j) 3 ≡ Some v → u ≡ v
     thirds_agree i j u v nu nv p q =
-        agree C three r lg 2 refl i j u v (third_character S (H i) u nu (third_sound S C.lawful (H i) u p)) (third_character S (H j) v nv (third_sound S C.lawful (H j) v q))
+        agree C three r lg 2 refl i j u v (third_character S (history_of i) u nu (third_sound S C.lawful (history_of i) u p)) (third_character S (history_of j) v nv (third_sound S C.lawful (history_of j) v q))
 
     -- a word of kind 4 stands on ample senders of kind 3
-    pub fourth_stands : (j v : ℕ) → said S (H j) 4 ≡ Some v → Ample S (speaks (seen (H j)) 3)
-    fourth_stands j v p = passed_speaks C 3 (H j) v (fourth_sound S C.lawful (H j) v p)
+    pub fourth_stands : (j v : ℕ) → said S (history_of j) 4 ≡ Some v → Ample S (speaks (seen (history_of j)) 3)
+    fourth_stands j v p = passed_speaks C 3 (history_of j) v (fourth_sound S C.lawful (history_of j) v p)
 
     -- so does a decision, at some board
-    decision_stands : (p : Depth) (j : ℕ) (d : Decision) → Justified S p (H j) d → (i : ℕ) × Ample S (speaks (seen (H i)) 3)
-    decision_stands One j d a = (j, passed_speaks C 3 (H j) d.value a.0)
+    decision_stands : (p : Depth) (j : ℕ) (d : Decision) → Justified S p (history_of j) d → (i : ℕ) × Ample S (speaks (seen (history_of i)) 3)
+    decision_stands One j d a = (j, passed_speaks C 3 (history_of j) d.value a.0)
     decision_stands Two j d a =
-        let all : Ample S (speaks (seen (H j)) 5) =
-        ⊎_elim (λ x. says_speaks C 5 (H j) d.value x.2) (λ y. ⊎_elim (λ x. x.3) (λ x. says_speaks C 5 (H j) 0 x.1) y) a in
+        let all : Ample S (speaks (seen (history_of j)) 5) =
+        ⊎_elim (λ x. says_speaks C 5 (history_of j) d.value x.2) (λ y. ⊎_elim (λ x. x.3) (λ x. says_speaks C 5 (history_of j) 0 x.1) y) a in
         let k = ample_spoken C three r lg 5 refl j all in
-        let l = ample_spoken C three r lg 4 refl k.0 (passed_speaks C 4 (H k.0) k.1 (fifth_sound S C.lawful (H k.0) k.1 k.3)) in
+        let l = ample_spoken C three r lg 4 refl k.0 (passed_speaks C 4 (history_of k.0) k.1 (fifth_sound S C.lawful (history_of k.0) k.1 k.3)) in
         (l.0, fourth_stands l.0 l.1 l.3)
 
   -- ---- ways to go on

@@ -33,38 +33,38 @@ module _ {S : Setting} (C : Crew S) where
   passed_speaks c h v (inr b) = b.2
 
   module _ (three : 3 ≤ S.rule.cover) (r : List Event) (lg : Legal (echo S) C r) where
-    abbrev H : ℕ → List Vote
-    H j = history r j
+    abbrev history_of : ℕ → List Vote
+    history_of j = history r j
 
     -- board i has posted v in kind c
     abbrev pub Said : ℕ → ℕ → ℕ → Type 0
-    Said i c v = said S (H i) c ≡ Some v
+    Said i c v = said S (history_of i) c ≡ Some v
 
-    pub heard_echo : (j i v : ℕ) → Steady (echo S) C i → counted (H j) 1 v i ≡ true → (s : ℕ) × (start_of r i ≡ Some s) × (echoed S s (H i) v ≡ true)
+    pub heard_echo : (j i v : ℕ) → Steady (echo S) C i → counted (history_of j) 1 v i ≡ true → (s : ℕ) × (start_of r i ≡ Some s) × (echoed S s (history_of i) v ≡ true)
     heard_echo j i v si p =
-        let k = posted_found (echo S) r i 1 v (sends (echo S) C (echo_grows S) r lg j 1 v i si p) in (k.0, k.1, posts_echo S k.0 (H i) v k.2)
+        let k = posted_found (echo S) r i 1 v (sends (echo S) C (echo_grows S) r lg j 1 v i si p) in (k.0, k.1, posts_echo S k.0 (history_of i) v k.2)
 
-    pub heard_said : (c : ℕ) → eqb c 1 ≡ false → (j i v : ℕ) → Steady (echo S) C i → says (seen (H j)) c v i ≡ true → Said i c v
-    heard_said c n j i v si p = posted_said S r i c v n (sends (echo S) C (echo_grows S) r lg j c v i si (first_counted (H j) c i v (is_found v _ p)))
+    pub heard_said : (c : ℕ) → eqb c 1 ≡ false → (j i v : ℕ) → Steady (echo S) C i → says (seen (history_of j)) c v i ≡ true → Said i c v
+    heard_said c n j i v si p = posted_said S r i c v n (sends (echo S) C (echo_grows S) r lg j c v i si (first_counted (history_of j) c i v (is_found v _ p)))
 
-    pub spoken : (c : ℕ) → eqb c 1 ≡ false → (j i : ℕ) → Steady (echo S) C i → speaks (seen (H j)) c i ≡ true → (v : ℕ) × Said i c v
+    pub spoken : (c : ℕ) → eqb c 1 ≡ false → (j i : ℕ) → Steady (echo S) C i → speaks (seen (history_of j)) c i ≡ true → (v : ℕ) × Said i c v
     spoken c n j i si p = let k = given_found _ p in (k.0, heard_said c n j i k.0 si (is_from k.0 k.1))
 
     -- an ample word has a steady sender
-    pub ample_said : (c : ℕ) → eqb c 1 ≡ false → (j v : ℕ) → Ample S (says (seen (H j)) c v) → (i : ℕ) × Steady (echo S) C i × Said i c v
+    pub ample_said : (c : ℕ) → eqb c 1 ≡ false → (j v : ℕ) → Ample S (says (seen (history_of j)) c v) → (i : ℕ) × Steady (echo S) C i × Said i c v
     ample_said c n j v a = let k = meet (echo S) C three _ _ a a in (k.0, k.1, heard_said c n j k.0 v k.1 k.2)
 
-    pub ample_spoken : (c : ℕ) → eqb c 1 ≡ false → (j : ℕ) → Ample S (speaks (seen (H j)) c) → (i : ℕ) × (v : ℕ) × Steady (echo S) C i × Said i c v
+    pub ample_spoken : (c : ℕ) → eqb c 1 ≡ false → (j : ℕ) → Ample S (speaks (seen (history_of j)) c) → (i : ℕ) × (v : ℕ) × Steady (echo S) C i × Said i c v
     ample_spoken c n j a = let k = meet (echo S) C three _ _ a a in let q = spoken c n j k.0 k.1 k.2 in (k.0, q.0, k.1, q.1)
 
     -- a board that has ample senders of a kind has started
-    pub hearer_started : (c j : ℕ) → Ample S (speaks (seen (H j)) c) → given (start_of r j) ≡ true
+    pub hearer_started : (c j : ℕ) → Ample S (speaks (seen (history_of j)) c) → given (start_of r j) ≡ true
     hearer_started c j a =
         let k = meet (echo S) C three _ _ a a in
         let v = given_found _ k.2 in
-        counter_started (echo S) C r lg j c v.0 k.0 (first_counted (H j) c k.0 v.0 v.1)
+        counter_started (echo S) C r lg j c v.0 k.0 (first_counted (history_of j) c k.0 v.0 v.1)
 
     -- two ample words of one kind are equal
-    pub agree : (c : ℕ) → eqb c 1 ≡ false → (i j u v : ℕ) → Ample S (says (seen (H i)) c u) → Ample S (says (seen (H j)) c v) → u ≡ v
+    pub agree : (c : ℕ) → eqb c 1 ≡ false → (i j u v : ℕ) → Ample S (says (seen (history_of i)) c u) → Ample S (says (seen (history_of j)) c v) → u ≡ v
     agree c n i j u v a b =
         let k = meet (echo S) C three _ _ a b in holds_one (heard_said c n i k.0 u k.1 k.2) (heard_said c n j k.0 v k.1 k.3)

@@ -20,47 +20,47 @@ use Rattle.agreement.proofs.Echo.Echoes.{Spans, all_echoes_span}
 use Rattle.agreement.proofs.Echo.Heard.{Said, heard_echo, heard_said, ample_said, hearer_started, says_speaks, passed_speaks}
 
 module _ {S : Setting} (three : 3 ≤ S.rule.cover) (C : Crew S) (r : List Event) (lg : Legal (echo S) C r) where
-  abbrev H : ℕ → List Vote
-  H j = history r j
+  abbrev history_of : ℕ → List Vote
+  history_of j = history r j
 
   abbrev Says : ℕ → ℕ → ℕ → Type 0
   Says i c v = Said C three r lg i c v
 
-  approved_spans : (j v : ℕ) → Approved S (H j) v → Spans C r v
+  approved_spans : (j v : ℕ) → Approved S (history_of j) v → Spans C r v
   approved_spans j v a =
       let k = meet (echo S) C three _ _ a.1 a.1 in
       let e = heard_echo C three r lg j k.0 v k.1 k.2 in
       all_echoes_span C r lg k.0 e.0 v k.1 e.1 e.2
 
-  two_span : (j : ℕ) → TwoApproved S (H j) → Spans C r 0
+  two_span : (j : ℕ) → TwoApproved S (history_of j) → Spans C r 0
   two_span j t = record {
     a_start = λ nz. absurd (nz refl);
     the_only = λ u all. absurd (t.4 ((approved_spans j _ t.2).the_only u all ∙ sym ((approved_spans j _ t.3).the_only u all)));
   }
 
-  mixed_spans : (j : ℕ) → Mixed S (H j) → Spans C r 0
+  mixed_spans : (j : ℕ) → Mixed S (history_of j) → Spans C r 0
   mixed_spans j (inl a) = approved_spans j 0 a
   mixed_spans j (inr t) = two_span j t
 
   second_spans : (i v : ℕ) → Says i 2 v → Spans C r v
-  second_spans i v p = approved_spans i v (second_sound S C.lawful (H i) v p)
+  second_spans i v p = approved_spans i v (second_sound S C.lawful (history_of i) v p)
 
-  ample_spans : (c : ℕ) → eqb c 1 ≡ false → ((i v : ℕ) → Says i c v → Spans C r v) → (j v : ℕ) → Ample S (says (seen (H j)) c v) → Spans C r v
+  ample_spans : (c : ℕ) → eqb c 1 ≡ false → ((i v : ℕ) → Says i c v → Spans C r v) → (j v : ℕ) → Ample S (says (seen (history_of j)) c v) → Spans C r v
   ample_spans c n f j v a = let k = ample_said C three r lg c n j v a in f k.0 v k.2
 
   third_spans : (i v : ℕ) → Says i 3 v → Spans C r v
   third_spans i v p =
-      ⊎_elim (λ a. ample_spans 2 refl second_spans i v a) (λ b. subst (Spans C r) (sym b.0) (two_span i b.1)) (third_sound S C.lawful (H i) v p)
+      ⊎_elim (λ a. ample_spans 2 refl second_spans i v a) (λ b. subst (Spans C r) (sym b.0) (two_span i b.1)) (third_sound S C.lawful (history_of i) v p)
 
-  passed_spans : (c : ℕ) → eqb c 1 ≡ false → ((i v : ℕ) → Says i c v → Spans C r v) → (j v : ℕ) → Passed S c (H j) v → Spans C r v
+  passed_spans : (c : ℕ) → eqb c 1 ≡ false → ((i v : ℕ) → Says i c v → Spans C r v) → (j v : ℕ) → Passed S c (history_of j) v → Spans C r v
   passed_spans c n f j v (inl a) = ample_spans c n f j v a
   passed_spans c n f j v (inr b) = subst (Spans C r) (sym b.0) (mixed_spans j b.1)
 
   fourth_spans : (i v : ℕ) → Says i 4 v → Spans C r v
-  fourth_spans i v p = passed_spans 3 refl third_spans i v (fourth_sound S C.lawful (H i) v p)
+  fourth_spans i v p = passed_spans 3 refl third_spans i v (fourth_sound S C.lawful (history_of i) v p)
 
   pub fifth_spans : (i v : ℕ) → Says i 5 v → Spans C r v
-  fifth_spans i v p = passed_spans 4 refl fourth_spans i v (fifth_sound S C.lawful (H i) v p)
+  fifth_spans i v p = passed_spans 4 refl fourth_spans i v (fifth_sound S C.lawful (history_of i) v p)
 
   -- ---- decisions
   abbrev All : ℕ → Type 0
@@ -79,10 +79,10 @@ module _ {S : Setting} (three : 3 ≤ S.rule.cover) (C : Crew S) (r : List Event
       ((v : ℕ) → All v → (d.value ≡ v) × (d.grade ≡ grades p))
       × (NoneDecided d ⊎ ((1 ≤ d.grade) × (d.grade ≤ grades p) × ((i : ℕ) × Steady (echo S) C i × (start_of r i ≡ Some d.value))))
 
-  span_at : (p : Depth) (j : ℕ) (d : Decision) → Steady (echo S) C j → Justified S p (H j) d → SpanAt p d
+  span_at : (p : Depth) (j : ℕ) (d : Decision) → Steady (echo S) C j → Justified S p (history_of j) d → SpanAt p d
   span_at One j d sj (a, inl z) =
       let sp = passed_spans 3 refl third_spans j d.value a in
-      let st = hearer_started C three r lg 3 j (passed_speaks C 3 (H j) d.value a) in
+      let st = hearer_started C three r lg 3 j (passed_speaks C 3 (history_of j) d.value a) in
       (λ v all. absurd (not_zero j sj st v all (sym (sp.the_only v all) ∙ z.0)), inl z)
   span_at One j d sj (a, inr z) =
       let sp = passed_spans 3 refl third_spans j d.value a in
@@ -97,11 +97,11 @@ module _ {S : Setting} (three : 3 ≤ S.rule.cover) (C : Crew S) (r : List Event
       (λ v all. absurd (not_zero j sj st v all (sym ((mixed_spans j b.2).the_only v all))), inr (omega (arith, b.1), omega (arith, b.1), sp.a_start b.0))
   span_at Two j d sj (inr (inr c)) =
       let sp = ample_spans 5 refl fifth_spans j 0 c.1 in
-      let st = hearer_started C three r lg 5 j (says_speaks C 5 (H j) 0 c.1) in
+      let st = hearer_started C three r lg 5 j (says_speaks C 5 (history_of j) 0 c.1) in
       (λ v all. absurd (not_zero j sj st v all (sym (sp.the_only v all))), inl c.0)
 
   pub echo_spanned : (j : ℕ) (d : Decision) → Steady (echo S) C j → decision (echo S) r j ≡ Some d → InSpan (echo S) C (StartedWith r) d
   unfolding decision
   echo_spanned j d sj p =
-      let k = span_at S.depth j d sj (decided_sound S C.lawful (H j) d p) in
+      let k = span_at S.depth j d sj (decided_sound S C.lawful (history_of j) d p) in
       record { where_all_are_one = k.0; none_or_one_of_them = k.1 }
