@@ -19,7 +19,7 @@ returns-then-buf-frames_len c =
     let short = frames_short p c.args.self.now.sound in
     let few = words_le p in
     let no_room : length (words_of p) * 19 ≤ length c.args.buf.now → ⊥ = λ h. omega arith in
-    let no-855 : 855 ≤ length c.args.buf.now → ⊥ = λ h. omega arith in
+    let no_855 : 855 ≤ length c.args.buf.now → ⊥ = λ h. omega arith in
     record {
       value = search rules;
       buffer = search rules;
@@ -28,7 +28,7 @@ returns-then-buf-frames_len c =
       each_frame_reads_back_as_its_word = tt;
       at_most_19_bytes_for_each_word = tt;
       a_buffer_of_19_bytes_for_each_word_is_enough = λ h. absurd (no_room h);
-      a_buffer_of_855_bytes_is_always_enough = λ h. absurd (no-855 h);
+      a_buffer_of_855_bytes_is_always_enough = λ h. absurd (no_855 h);
       no_byte_behind_is_other_than_zero = tt;
     }
 
