@@ -11,7 +11,7 @@ ghost use Rattle.quorum.specs.Good.{listed_good};
 use crate::fault::{RuleFault, size_fault};
 use crate::limits::MAX_LISTED;
 use crate::rule::FailureRule;
-use crate::set::{in_crew, outside};
+use crate::set::{in_crew, outside, part};
 use fixed::Fixed;
 
 #[derive(Clone, Copy)]
@@ -53,7 +53,7 @@ fn hold_all(crew: u8, sets: &[u16], more: u8, have: u16) -> bool
 fn in_one(sets: &[u16], set: u16) -> bool
     ensures { result ≡ list_any (part set) sets.now }
 {
-    sets.iter().any(|large| set | *large == *large)
+    sets.iter().any(|large| part(set, *large))
 }
 
 // What stands against a listed rule of these numbers and sets, the lowest number first, if anything does.

@@ -1,7 +1,7 @@
 // Sets of boards as numbers: board i adds 2 to the power i.
 ghost use Rattle.std.specs.Prelude.{◌≡◌, ◌≤◌};
 ghost use Rattle.quorum.specs.Limits.{max_crew};
-ghost use Rattle.quorum.specs.Sets.{member, rest, in_crew};
+ghost use Rattle.quorum.specs.Sets.{member, rest, part, in_crew};
 
 use crate::limits::MAX_CREW;
 
@@ -20,6 +20,13 @@ pub(crate) fn outside(crew: u8, set: u16) -> u16
     let full = (1u32 << crew) - 1;
     let left = full - (full & set as u32);
     left as u16
+}
+
+// Whether each board of the one set is in the other.
+pub fn part(set: u16, of: u16) -> bool
+    ensures { result ≡ part set of }
+{
+    set | of == of
 }
 
 // Whether the set has no board outside the crew; it can have none outside a crew of 16 or more.
