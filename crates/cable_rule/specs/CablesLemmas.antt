@@ -2,7 +2,8 @@
 use Rattle.std.specs.Prelude.{◌≡◌, ℕ, ◌^◌, true, false, not, ◌&&◌, List, [], ◌∷◌, nat_lt, refl}
 use Rattle.std.proofs.Common.{⊎_elim}
 use Rattle.std.proofs.lemmas.Bool.{and_parts, or_cases, or_left, or_right, or_from, not-true, ltb-true}
-use Rattle.quorum.specs.Sets.{member, Part, part, in_crew, in_some, all_pass}
+use Rattle.std.specs.List.{list_all}
+use Rattle.quorum.specs.Sets.{member, Part, part, in_crew, in_some}
 use Rattle.quorum.specs.Rules.{Lawful}
 use Rattle.quorum.specs.Truth.{clash, false_since}
 use Rattle.quorum.specs.Members.{member_none, member_lt, part_found, part_from}
@@ -13,10 +14,10 @@ module _ (a b : ℕ) where
   on_one_cases s h f g = ⊎_elim (λ e. f (part_found s a e)) (λ e. g (part_found s b e)) (or_cases (part s a) (part s b) h)
 
   -- a board on neither cable is in none of the sets
-  missed : (k : ℕ) → member k a ≡ false → member k b ≡ false → (ss : List ℕ) → all_pass (on_one a b) ss ≡ true → in_some k ss ≡ false
+  missed : (k : ℕ) → member k a ≡ false → member k b ≡ false → (ss : List ℕ) → list_all (on_one a b) ss ≡ true → in_some k ss ≡ false
   missed k p q [] h = refl
   missed k p q (s ∷ ss) h =
-      let j = and_parts (on_one a b s) (all_pass (on_one a b) ss) h in
+      let j = and_parts (on_one a b s) (list_all (on_one a b) ss) h in
       or_from (member k s) (in_some k ss) (on_one_cases s j.0 (λ w. false_since _ _ (w k) p) (λ w. false_since _ _ (w k) q)) (missed k p q ss j.1)
 
 pub cable_lawful : (n c k a b : ℕ) → fair n k a b ≡ true → Lawful (cable_rule n c a b)

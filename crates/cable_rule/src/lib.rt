@@ -4,14 +4,10 @@
 #![tactic(auto)]
 
 ghost use Rattle.std.specs.Prelude.{◌≡◌, true, false, MatchOption};
-ghost use Rattle.quorum.specs.Sets.{member, in_crew};
 ghost use Rattle.cable_rule.specs.Cables.{cable_rule, fair};
 ghost use Rattle.cable_rule.specs.CablesLemmas.{cable_lawful};
 
-use quorum::FailureRule;
-
-// How many bits a set of boards has.
-const SET_BITS: u8 = 16;
+use quorum::{FailureRule, has, in_crew, part};
 
 #[derive(Clone, Copy)]
 pub struct CableRule {
@@ -23,42 +19,22 @@ pub struct CableRule {
     ghost good: { fair crew spare first second ≡ true },
 }
 
-// Whether the board is on the cable.
-fn on_cable(board: u8, cable: u16) -> bool
-    ensures { result ≡ member board cable }
-{
-    if board >= SET_BITS {
-        return false;
-    }
-    (cable >> board) & 1 == 1
-}
-
-// Whether the cable has only boards of the crew.
-fn in_crew(crew: u8, cable: u16) -> bool
-    ensures { result ≡ in_crew crew cable }
-{
-    if crew >= SET_BITS {
-        return true;
-    }
-    (cable as u32) < (1u32 << crew)
-}
-
 impl CableRule {
     // `spare` is a board on neither cable. Nothing is made where it is on one, or where a board is outside the crew.
     pub fn new(crew: u8, cover: u8, spare: u8, first: u16, second: u16) -> Option<CableRule>
         ensures { MatchOption result (fair crew spare first second ≡ false) (λ x. (fair crew spare first second ≡ true) × (cable_rule x.crew x.cover x.first x.second ≡ cable_rule crew cover first second)) }
     {
-        let spared = (spare < crew) & !on_cable(spare, first) & !on_cable(spare, second);
-        if spared & in_crew(crew, first) & in_crew(crew, second) {
-            return Some(CableRule {
-                crew,
-                cover,
-                spare,
-                first,
-                second,
-            });
+        let spared = spare < crew && !has(first, spare) && !has(second, spare);
+        if !spared || !in_crew(crew, first) || !in_crew(crew, second) {
+            return None;
         }
-        None
+        Some(CableRule {
+            crew,
+            cover,
+            spare,
+            first,
+            second,
+        })
     }
 }
 
@@ -76,7 +52,7 @@ impl FailureRule for CableRule {
     }
 
     fn may_fail(&self, set: u16) -> bool {
-        (set | self.first == self.first) | (set | self.second == self.second)
+        part(set, self.first) || part(set, self.second)
     }
 }
 

@@ -2,7 +2,8 @@
 use Rattle.std.proofs.Common.{◌≡◌, ℕ, zero, suc, ◌<◌, Bool, true, ◌||◌, List, [], ◌∷◌, length, ◌==◌, bit_or, sym, ap, ◌∙◌, ⊎_elim, refl}
 use Rattle.std.proofs.lemmas.Bool.{false≢true, eqb-true, not-false, and_from, or_cases, or_left, or_right}
 use Rattle.std.proofs.Math.Bool.{or_assoc, or-false}
-use Rattle.quorum.specs.Sets.{member, part, whole, in_some, any_passes, all_pass}
+use Rattle.std.specs.List.{list_any, list_all}
+use Rattle.quorum.specs.Sets.{member, part, whole, in_some}
 use Rattle.quorum.specs.Listing.{listed, held, HeldMeansIt}
 use Rattle.quorum.specs.Members.{member_none, member_or, member_rest, part_from}
 use Rattle.quorum.specs.Held.{held_whole}
@@ -12,17 +13,17 @@ in_whole : (n a : ℕ) → whole n a ≡ true → (i : ℕ) → i < n → member
 in_whole n a h i l = not-false _ (sym (member_rest n a i l) ∙ ap (member i) (eqb-true _ _ h) ∙ member_none i)
 
 -- a test that some listed set passes is passed by one that is a part of a listed set: itself
-listed_found : (p : ℕ → Bool) (ms : List ℕ) → any_passes p ms ≡ true → (m : ℕ) × (p m ≡ true) × (any_passes (part m) ms ≡ true)
+listed_found : (p : ℕ → Bool) (ms : List ℕ) → list_any p ms ≡ true → (m : ℕ) × (p m ≡ true) × (list_any (part m) ms ≡ true)
 listed_found p [] h = absurd (false≢true h)
 listed_found p (m ∷ ms) h =
     ⊎_elim (λ e. (m, e, or_left (part m m) _ (part_from m m (λ i q. q))))
     (λ e. let k = listed_found p ms e in (k.0, k.1, or_right (part k.0 m) _ k.2))
-    (or_cases (p m) (any_passes p ms) h)
+    (or_cases (p m) (list_any p ms) h)
 
 module _ (n : ℕ) (ms : List ℕ) where
   -- c sets of the family that hold the crew together with the set a
   abbrev Beside : ℕ → ℕ → Type 0
-  Beside c a = (ss : List ℕ) × (length ss ≡ c) × (all_pass (listed ms) ss ≡ true) × ((i : ℕ) → i < n → (member i a || in_some i ss) ≡ true)
+  Beside c a = (ss : List ℕ) × (length ss ≡ c) × (list_all (listed ms) ss ≡ true) × ((i : ℕ) → i < n → (member i a || in_some i ss) ≡ true)
 
   -- where b has the boards of a and of a set m of the family, that set is one more beside a
   one_more : (c a b m : ℕ) → ((i : ℕ) → member i b ≡ (member i a || member i m)) → listed ms m ≡ true → Beside c b → Beside (suc c) a

@@ -2,7 +2,8 @@
 use Rattle.std.proofs.Common.{◌≡◌, ℕ, zero, suc, ◌+◌, ◌-◌, ◌^◌, ◌<◌, ◌≤◌, Bool, true, false, not, ◌&&◌, ◌||◌, leb, List, [], ◌∷◌, length, sym, refl, ap, ◌∙◌, ⊎_elim, pow-suc, arith, lit<}
 use Rattle.std.proofs.lemmas.Bool.{and_parts, and_from, or_parts, or_right, not-true, not-false, not_from_false, cases_Bool, and_left, le-leb, lt-leb}
 use Rattle.quorum.specs.Limits.{max_crew}
-use Rattle.quorum.specs.Sets.{member, rest, Part, in_some, in_each, all_pass}
+use Rattle.std.specs.List.{list_all}
+use Rattle.quorum.specs.Sets.{member, rest, Part, in_some, in_each}
 use Rattle.quorum.specs.Rules.{Rule, Lawful, strong, ample}
 use Rattle.quorum.specs.Facts.{StrongFacts, AmpleFacts}
 use Rattle.quorum.specs.Truth.{clash, false_since, all_or}
@@ -60,13 +61,13 @@ rests_miss n (s ∷ ss) bs i l h =
     (and_from _ _ (not-false (member i s) (sym (member_rest n s i l) ∙ k.0)) j.0, j.1)
 
 module _ {R : Rule} (law : Lawful R) where
-  pad_fails : (k : ℕ) (ss : List ℕ) → all_pass R.fails ss ≡ true → all_pass R.fails (pad k ss) ≡ true
+  pad_fails : (k : ℕ) (ss : List ℕ) → list_all R.fails ss ≡ true → list_all R.fails (pad k ss) ≡ true
   unfolding pad
   pad_fails zero ss h = h
   pad_fails (suc k) ss h = and_from (R.fails 0) _ law.nobody_fails (pad_fails k ss h)
 
   -- sets of the family, no more than the cover, leave out a board of the crew
-  pub left_out : (ss : List ℕ) → length ss ≤ R.cover → all_pass R.fails ss ≡ true → (i : ℕ) × (i < R.crew) × (in_some i ss ≡ false)
+  pub left_out : (ss : List ℕ) → length ss ≤ R.cover → list_all R.fails ss ≡ true → (i : ℕ) × (i < R.crew) × (in_some i ss ≡ false)
   left_out ss few h =
       ⊎_elim
       (λ all. absurd (law.never_all (pad (R.cover - length ss) ss) (omega (arith, pad_length (R.cover - length ss) ss)) (pad_fails (R.cover - length ss) ss h)
@@ -88,14 +89,14 @@ module _ {R : Rule} (law : Lawful R) where
   strong_grows s t w h = not_from_false _ (false_since (R.fails t) (R.fails s) (law.parts_fail s t w) (not-true _ h))
 
   -- ---- ample sets
-  rests_fail : (ss bs : List ℕ) → all_pass (ample R) ss ≡ true → all_pass R.fails bs ≡ true → all_pass R.fails (rests R.crew ss bs) ≡ true
+  rests_fail : (ss bs : List ℕ) → list_all (ample R) ss ≡ true → list_all R.fails bs ≡ true → list_all R.fails (rests R.crew ss bs) ≡ true
   unfolding rests ample
   rests_fail [] bs h f = f
   rests_fail (s ∷ ss) bs h f =
-      let k = and_parts (ample R s) (all_pass (ample R) ss) h in
+      let k = and_parts (ample R s) (list_all (ample R) ss) h in
       and_from _ _ (and_parts (leb R.crew max_crew) (R.fails (rest R.crew s)) k.0).1 (rests_fail ss bs k.1 f)
 
-  pub ample_share : (ss bs : List ℕ) → length ss + length bs ≤ R.cover → all_pass (ample R) ss ≡ true → all_pass R.fails bs ≡ true
+  pub ample_share : (ss bs : List ℕ) → length ss + length bs ≤ R.cover → list_all (ample R) ss ≡ true → list_all R.fails bs ≡ true
       → (i : ℕ) × (i < R.crew) × (in_each i ss ≡ true) × (in_some i bs ≡ false)
   ample_share ss bs few h f =
       let k = left_out (rests R.crew ss bs) (omega (arith, rests_length R.crew ss bs)) (rests_fail ss bs h f) in

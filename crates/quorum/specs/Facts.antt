@@ -1,7 +1,8 @@
 -- What the laws of a rule give of its strong and ample sets, each statement of one rule and any sets. Assumes nothing.
 use Rattle.std.specs.Prelude.{◌≡◌, ℕ, ◌+◌, ◌<◌, ◌≤◌, true, false, List, length}
 use Rattle.quorum.specs.Limits.{max_crew}
-use Rattle.quorum.specs.Sets.{member, rest, Part, in_some, in_each, all_pass}
+use Rattle.std.specs.List.{list_all}
+use Rattle.quorum.specs.Sets.{member, rest, Part, in_some, in_each}
 use Rattle.quorum.specs.Rules.{Rule, strong, ample}
 
 pub record StrongFacts (R : Rule) : Type 0 where
@@ -13,7 +14,7 @@ pub record StrongFacts (R : Rule) : Type 0 where
 pub record AmpleFacts (R : Rule) : Type 0 where
   -- Ample sets and sets of the family, together no more than the cover: some board of the crew is in each of the first and in none of the second.
   -- The next three are what covers of 2 and 3 make of it.
-  pub share_a_board : (ss bs : List ℕ) → length ss + length bs ≤ R.cover → all_pass (ample R) ss ≡ true → all_pass R.fails bs ≡ true
+  pub share_a_board : (ss bs : List ℕ) → length ss + length bs ≤ R.cover → list_all (ample R) ss ≡ true → list_all R.fails bs ≡ true
       → (i : ℕ) × (i < R.crew) × (in_each i ss ≡ true) × (in_some i bs ≡ false)
   -- two ample sets share a board
   pub two_meet : 2 ≤ R.cover → (s t : ℕ) → ample R s ≡ true → ample R t ≡ true → (i : ℕ) × (i < R.crew) × (member i s ≡ true) × (member i t ≡ true)

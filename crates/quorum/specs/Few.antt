@@ -4,7 +4,8 @@ use Rattle.std.proofs.Common.{sym, ap, ◌∙◌, ⊎_elim, zero-le, suc-mul, ar
 use Rattle.std.proofs.Math.Arith.{bin_ind}
 use Rattle.std.specs.Int.Count.{ones, ones_step}
 use Rattle.std.proofs.lemmas.Bool.{false≢true, leb-true, ltb-true, le-leb, lt-ltb, and_parts, and_from, or_cases, eqb-true}
-use Rattle.quorum.specs.Sets.{member, Part, in_some, in_crew, all_pass}
+use Rattle.std.specs.List.{list_all}
+use Rattle.quorum.specs.Sets.{member, Part, in_some, in_crew}
 use Rattle.quorum.specs.Rules.{Lawful}
 use Rattle.quorum.specs.Counting.{few, count_rule}
 use Rattle.quorum.specs.Members.{member_lt}
@@ -56,11 +57,11 @@ reach (suc n) ss h =
     let r : n ≤ total (halves ss) = reach n (halves ss) (λ i l. sym (next_board i ss) ∙ h (suc i) (omega arith)) in
     omega (arith, total_step ss, first_board ss (h 0 (omega arith)))
 
-limit : (n f : ℕ) (ss : List ℕ) → all_pass (few n f) ss ≡ true → total ss ≤ length ss * f
+limit : (n f : ℕ) (ss : List ℕ) → list_all (few n f) ss ≡ true → total ss ≤ length ss * f
 unfolding total
 limit n f [] h = zero-le
 limit n f (s ∷ ss) h =
-    let k = and_parts (few n f s) (all_pass (few n f) ss) h in
+    let k = and_parts (few n f s) (list_all (few n f) ss) h in
     omega (arith, leb-true (ones s) f (and_parts (nat_le (ones s) f) (in_crew n s) k.0).0, limit n f ss k.1, suc-mul (length ss) f)
 
 pub count_lawful : (n c f : ℕ) → c * f < n → Lawful (count_rule n c f)

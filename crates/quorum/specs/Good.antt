@@ -4,7 +4,8 @@ use Rattle.std.proofs.lemmas.Bool.{true≢false, and_parts, leb-true, ltb-true}
 use Rattle.quorum.specs.declared.fault.RuleFault.{RuleFault}
 use Rattle.quorum.specs.declared.fault.RuleFault.TheVariants.{Crew, Cover, Sets, WholeCrew}
 use Rattle.quorum.specs.Limits.{max_crew, max_listed, min_cover, max_cover, crew_fits, cover_fits}
-use Rattle.quorum.specs.Sets.{in_crew, all_pass}
+use Rattle.std.specs.List.{list_all}
+use Rattle.quorum.specs.Sets.{in_crew}
 use Rattle.quorum.specs.Listing.{sets_fit, held, listed_rule}
 use Rattle.quorum.specs.Faults.{size_fault, count_fault, listed_fault}
 use Rattle.quorum.specs.Rules.{Lawful}
@@ -47,4 +48,4 @@ count_good n c f good = count_lawful n c f (ltb-true (c * f) n (first_none (nat_
 pub listed_good : (n c : ℕ) (ms : List ℕ) → is_some (listed_fault n c ms) ≡ false → Lawful (listed_rule n c ms)
 listed_good n c ms good =
     let k = first_none (sets_fit n ms) _ Sets (further_none n c _ good) in
-    listed_lawful n c ms (and_parts (nat_le (length ms) max_listed) (all_pass (in_crew n) ms) k.0).1 (held_none (held n ms c 0) k.1)
+    listed_lawful n c ms (and_parts (nat_le (length ms) max_listed) (list_all (in_crew n) ms) k.0).1 (held_none (held n ms c 0) k.1)

@@ -1,5 +1,5 @@
 -- What the rules of this crate mean, from the numbers that they hold. Assumes nothing.
-use Rattle.std.specs.Prelude.{take}
+use Rattle.fixed.specs.Items.{items_of}
 use Rattle.quorum.specs.declared.count.CountRule.{CountRule}
 use Rattle.quorum.specs.declared.listed.ListedRule.{ListedRule}
 use Rattle.quorum.specs.declared.either.EitherRule.{EitherRule}
@@ -12,7 +12,7 @@ abbrev pub meaning_of_count : CountRule → Rule
 meaning_of_count x = count_rule x.crew x.cover x.f
 
 abbrev pub meaning_of_listed : ListedRule → Rule
-meaning_of_listed x = listed_rule x.crew x.cover (take x.many x.sets)
+meaning_of_listed x = listed_rule x.crew x.cover (items_of x.sets)
 
 abbrev pub either_rule : EitherRule → Rule
 either_rule (Count x) = meaning_of_count x

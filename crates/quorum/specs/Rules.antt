@@ -1,7 +1,8 @@
 -- What a failure rule means, its four laws, and the strong and the ample sets. Assumes nothing.
 use Rattle.std.specs.Prelude.{◌≡◌, ℕ, ◌<◌, Bool, true, not, ◌&&◌, List, length, nat_le}
 use Rattle.quorum.specs.Limits.{max_crew}
-use Rattle.quorum.specs.Sets.{member, set_of, rest, Part, in_some, all_pass}
+use Rattle.std.specs.List.{list_all}
+use Rattle.quorum.specs.Sets.{member, set_of, rest, Part, in_some}
 
 -- A failure rule: how many boards the crew has, how many sets of the family never hold the whole crew between them (the cover),
 -- and the family, the sets of boards that may fail together. The field's terms: a fail-prone system, with the condition Q of its cover.
@@ -19,7 +20,7 @@ pub record Lawful (R : Rule) : Type 0 where
   -- only boards of the crew fail
   pub inside_crew : (s i : ℕ) → R.fails s ≡ true → member i s ≡ true → i < R.crew
   -- no `cover` sets of the family, repeats allowed, hold the whole crew between them
-  pub never_all : (ss : List ℕ) → length ss ≡ R.cover → all_pass R.fails ss ≡ true → ((i : ℕ) → i < R.crew → in_some i ss ≡ true) → ⊥
+  pub never_all : (ss : List ℕ) → length ss ≡ R.cover → list_all R.fails ss ≡ true → ((i : ℕ) → i < R.crew → in_some i ss ≡ true) → ⊥
 
 -- A strong set is one that the family lacks: whatever fails, it holds a board that does not (the field's term: a set that is no fail-prone set, so with an honest member).
 unfoldable pub strong : Rule → ℕ → Bool

@@ -40,12 +40,3 @@ in_some i (s ∷ ss) = member i s || in_some i ss
 abbrev pub in_each : ℕ → List ℕ → Bool
 in_each i [] = true
 in_each i (s ∷ ss) = member i s && in_each i ss
-
--- some set of the list passes the test, and each does
-abbrev pub any_passes : (ℕ → Bool) → List ℕ → Bool
-any_passes p [] = false
-any_passes p (s ∷ ss) = p s || any_passes p ss
-
-abbrev pub all_pass : (ℕ → Bool) → List ℕ → Bool
-all_pass p [] = true
-all_pass p (s ∷ ss) = p s && all_pass p ss

@@ -2,7 +2,7 @@
 use Rattle.std.specs.Prelude.{◌≡◌, ℕ, zero, suc, ◌<◌, Bool, true, false, not, ◌⊎◌, List, [], ◌∷◌, ◌≢◌, refl}
 use Rattle.std.proofs.Common.{sym, ◌∙◌, inl, inr, ⊎_elim, not-suc-le-zero, arith}
 use Rattle.std.proofs.lemmas.Bool.{true≢false, false≢true, and_parts, and_from, or_cases, or_parts, or_left, or_right, not_from_false, cases_Bool, cases_eq}
-use Rattle.quorum.specs.Sets.{any_passes, all_pass}
+use Rattle.std.specs.List.{list_any, list_all}
 
 -- a test is not both true and false
 pub clash : {X : Type 0} {b : Bool} → b ≡ true → b ≡ false → X
@@ -34,18 +34,18 @@ all_or (suc n) p =
     (all_or n p)
 
 -- a test that some set of the list passes, put to use
-pub any_found : (p q : ℕ → Bool) (ss : List ℕ) → any_passes p ss ≡ true → all_pass q ss ≡ true → (s : ℕ) × (p s ≡ true) × (q s ≡ true)
+pub any_found : (p q : ℕ → Bool) (ss : List ℕ) → list_any p ss ≡ true → list_all q ss ≡ true → (s : ℕ) × (p s ≡ true) × (q s ≡ true)
 any_found p q [] h a = absurd (false≢true h)
 any_found p q (s ∷ ss) h a =
-    let k = and_parts (q s) (all_pass q ss) a in
-    ⊎_elim (λ e. (s, e, k.0)) (λ e. any_found p q ss e k.1) (or_cases (p s) (any_passes p ss) h)
+    let k = and_parts (q s) (list_all q ss) a in
+    ⊎_elim (λ e. (s, e, k.0)) (λ e. any_found p q ss e k.1) (or_cases (p s) (list_any p ss) h)
 
-pub any_weaker : (p q : ℕ → Bool) → ((s : ℕ) → p s ≡ true → q s ≡ true) → (ss : List ℕ) → any_passes p ss ≡ true → any_passes q ss ≡ true
+pub any_weaker : (p q : ℕ → Bool) → ((s : ℕ) → p s ≡ true → q s ≡ true) → (ss : List ℕ) → list_any p ss ≡ true → list_any q ss ≡ true
 any_weaker p q f [] h = h
 any_weaker p q f (s ∷ ss) h =
-    ⊎_elim (λ e. or_left (q s) (any_passes q ss) (f s e)) (λ e. or_right (q s) (any_passes q ss) (any_weaker p q f ss e)) (or_cases (p s) (any_passes p ss) h)
+    ⊎_elim (λ e. or_left (q s) (list_any q ss) (f s e)) (λ e. or_right (q s) (list_any q ss) (any_weaker p q f ss e)) (or_cases (p s) (list_any p ss) h)
 
 -- where no set passes, each fails the test
-pub none_pass : (p : ℕ → Bool) (ss : List ℕ) → any_passes p ss ≡ false → all_pass (λ s. not (p s)) ss ≡ true
+pub none_pass : (p : ℕ → Bool) (ss : List ℕ) → list_any p ss ≡ false → list_all (λ s. not (p s)) ss ≡ true
 none_pass p [] h = refl
-none_pass p (s ∷ ss) h = let k = or_parts (p s) (any_passes p ss) h in and_from _ _ (not_from_false (p s) k.0) (none_pass p ss k.1)
+none_pass p (s ∷ ss) h = let k = or_parts (p s) (list_any p ss) h in and_from _ _ (not_from_false (p s) k.0) (none_pass p ss k.1)

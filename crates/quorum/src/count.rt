@@ -17,6 +17,7 @@ pub struct CountRule {
 }
 
 // What stands against a count rule of these numbers, the lowest number first, if anything does.
+// The three stay loose: the struct that holds them together is the rule, which is made only where nothing stands against them.
 pub fn count_fault(crew: u16, cover: u16, f: u16) -> Option<RuleFault>
     ensures { result ≡ count_fault crew cover f }
 {
@@ -58,6 +59,6 @@ impl FailureRule for CountRule {
     }
 
     fn may_fail(&self, set: u16) -> bool {
-        (set.count_ones() <= self.f as u32) & in_crew(self.crew, set)
+        set.count_ones() <= self.f as u32 && in_crew(self.crew, set)
     }
 }

@@ -1,5 +1,6 @@
 // A rule of either kind, for who must choose the kind at run time.
-ghost use Rattle.std.specs.Prelude.{◌≡◌, take};
+ghost use Rattle.std.specs.Prelude.{◌≡◌};
+ghost use Rattle.fixed.specs.Items.{items_of};
 ghost use Rattle.quorum.specs.Counting.{count_rule};
 ghost use Rattle.quorum.specs.Faults.{count_fault, listed_fault, Made};
 ghost use Rattle.quorum.specs.Listing.{listed_rule};
@@ -22,19 +23,13 @@ impl EitherRule {
     pub fn count(crew: u16, cover: u16, f: u16) -> Result<EitherRule, RuleFault>
         ensures { Made (count_fault crew cover f) (count_rule crew cover f) either_rule result }
     {
-        match CountRule::new(crew, cover, f) {
-            Ok(rule) => Ok(EitherRule::Count(rule)),
-            Err(fault) => Err(fault),
-        }
+        Ok(EitherRule::Count(CountRule::new(crew, cover, f)?))
     }
 
     pub fn listed(crew: u16, cover: u16, sets: &[u16]) -> Result<EitherRule, RuleFault>
         ensures { Made (listed_fault crew cover sets.now) (listed_rule crew cover sets.now) either_rule result }
     {
-        match ListedRule::new(crew, cover, sets) {
-            Ok(rule) => Ok(EitherRule::Listed(rule)),
-            Err(fault) => Err(fault),
-        }
+        Ok(EitherRule::Listed(ListedRule::new(crew, cover, sets)?))
     }
 }
 
@@ -43,9 +38,10 @@ impl FailureRule for EitherRule {
 
     ghost lawful = { elim [
       | Count x ↦ count_good x.crew x.cover x.f x.good
-      | Listed x ↦ listed_good x.crew x.cover (take x.many x.sets) x.good
+      | Listed x ↦ listed_good x.crew x.cover (items_of x.sets) x.good
     ] };
 
+    // stays a match for each question: one function that hands out the rule inside as a `dyn` is refused
     fn crew(&self) -> u8 {
         match self {
             EitherRule::Count(rule) => rule.crew(),

@@ -6,41 +6,35 @@ ghost use Rattle.quorum.specs.Faults.{number_of, refusal_of, size_fault};
 use crate::limits::{MAX_COVER, MAX_CREW, MIN_COVER};
 use refusal::Refusal;
 
-// Each case has its number, the same wherever it is met.
+// Each case is a number, the same wherever it is met.
 #[derive(Clone, Copy, Debug, PartialEq, Eq)]
 pub enum RuleFault {
     // The crew is empty, or larger than allowed.
-    Crew,
+    Crew = 1,
     // The cover is not among those allowed.
-    Cover,
+    Cover = 3,
     // There are too many listed sets, or one has a board outside the crew.
-    Sets,
+    Sets = 4,
     // As many sets that may fail as the cover says can hold the whole crew.
-    WholeCrew,
+    WholeCrew = 5,
 }
 
 impl RuleFault {
+    #[tactic(auto, using(crate::proofs::Table::marked_cases))]
     pub fn number(self) -> u8
         ensures value { result ≡ number_of self }
         ensures marked { MarkedCases }
     {
-        match self {
-            RuleFault::Crew => 1,
-            RuleFault::Cover => 3,
-            RuleFault::Sets => 4,
-            RuleFault::WholeCrew => 5,
-        }
+        self as u8
     }
+}
 
-    // What is told of the fault; the layer follows from the number.
-    pub fn refusal(self) -> Refusal
-        ensures { result ≡ refusal_of self }
-    {
-        Refusal {
-            number: self.number(),
-            place: None,
-            board: None,
-        }
+// What is told of the fault; the layer follows from the number.
+impl From<RuleFault> for Refusal {
+    ghost from_gives = { λ e r. r ≡ refusal_of e };
+
+    fn from(fault: RuleFault) -> Refusal {
+        Refusal::numbered(fault.number())
     }
 }
 
@@ -48,10 +42,10 @@ impl RuleFault {
 pub fn size_fault(crew: u16, cover: u16) -> Option<RuleFault>
     ensures { result ≡ size_fault crew cover None }
 {
-    if crew < 1 || crew > MAX_CREW as u16 {
+    if !(1..=MAX_CREW as u16).contains(&crew) {
         return Some(RuleFault::Crew);
     }
-    if cover < MIN_COVER as u16 || cover > MAX_COVER as u16 {
+    if !(MIN_COVER as u16..=MAX_COVER as u16).contains(&cover) {
         return Some(RuleFault::Cover);
     }
     None

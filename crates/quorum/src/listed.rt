@@ -1,7 +1,9 @@
 // The listed rule: the boards of one listed set may fail together.
-ghost use Rattle.std.specs.Prelude.{◌≡◌, ◌≤◌, false, length, take, is_some};
-ghost use Rattle.quorum.specs.Limits.{max_crew, max_listed};
-ghost use Rattle.quorum.specs.Sets.{part, any_passes};
+ghost use Rattle.std.specs.Prelude.{◌≡◌, ◌≤◌, false, is_some};
+ghost use Rattle.std.specs.List.{list_any};
+ghost use Rattle.fixed.specs.Items.{items_of};
+ghost use Rattle.quorum.specs.Limits.{max_crew};
+ghost use Rattle.quorum.specs.Sets.{part};
 ghost use Rattle.quorum.specs.Listing.{sets_fit, held, listed_rule, HeldMeansIt};
 ghost use Rattle.quorum.specs.Faults.{listed_fault, Made};
 ghost use Rattle.quorum.specs.Good.{listed_good};
@@ -9,33 +11,22 @@ ghost use Rattle.quorum.specs.Good.{listed_good};
 use crate::fault::{RuleFault, size_fault};
 use crate::limits::MAX_LISTED;
 use crate::rule::FailureRule;
-use crate::set::{in_crew, outside};
+use crate::set::{in_crew, outside, part};
+use fixed::Fixed;
 
-// The first `many` places of `sets` hold the listed sets.
 #[derive(Clone, Copy)]
 pub struct ListedRule {
     crew: u8,
     cover: u8,
-    many: usize,
-    sets: [u16; MAX_LISTED],
-    ghost placed: { many ≤ max_listed },
-    ghost good: { is_some (listed_fault crew cover (take many sets)) ≡ false },
+    sets: Fixed<u16, MAX_LISTED>,
+    ghost good: { is_some (listed_fault crew cover (items_of sets)) ≡ false },
 }
 
 // Whether the listed sets are not too many, and none has a board outside the crew.
 fn sets_fit(crew: u8, sets: &[u16]) -> bool
-    requires { crew ≤ max_crew }
     ensures { result ≡ sets_fit crew sets.now }
 {
-    if sets.len() > MAX_LISTED {
-        return false;
-    }
-    for set in sets {
-        if !in_crew(crew, *set) {
-            return false;
-        }
-    }
-    true
+    sets.len() <= MAX_LISTED && sets.iter().all(|set| in_crew(crew, *set))
 }
 
 // Whether the boards of `have` and of at most `more` of the sets are the whole crew.
@@ -49,6 +40,7 @@ fn hold_all(crew: u8, sets: &[u16], more: u8, have: u16) -> bool
     if more == 0 {
         return false;
     }
+    // stays a loop: a closure for `any` that calls this function again needs clauses of its own, longer than the loop
     for set in sets {
         if hold_all(crew, sets, more - 1, have | *set) {
             return true;
@@ -59,17 +51,13 @@ fn hold_all(crew: u8, sets: &[u16], more: u8, have: u16) -> bool
 
 // Whether the set is a part of one of the sets.
 fn in_one(sets: &[u16], set: u16) -> bool
-    ensures { result ≡ any_passes (part set) sets.now }
+    ensures { result ≡ list_any (part set) sets.now }
 {
-    for large in sets {
-        if set | *large == *large {
-            return true;
-        }
-    }
-    false
+    sets.iter().any(|large| part(set, *large))
 }
 
 // What stands against a listed rule of these numbers and sets, the lowest number first, if anything does.
+// The three stay loose: the struct that holds them together is the rule, which is made only where nothing stands against them.
 #[tactic(auto, using(crate::proofs::Holders::held_means_it))]
 pub fn listed_fault(crew: u16, cover: u16, sets: &[u16]) -> Option<RuleFault>
     ensures value { result ≡ listed_fault crew cover sets.now }
@@ -88,38 +76,25 @@ pub fn listed_fault(crew: u16, cover: u16, sets: &[u16]) -> Option<RuleFault>
     None
 }
 
-// The sets at the front of as many places as a rule has.
-fn placed(sets: &[u16]) -> [u16; MAX_LISTED]
-    requires { length sets.now ≤ max_listed }
-    ensures { take (length sets.now) result ≡ sets.now }
-{
-    let mut places = [0; MAX_LISTED];
-    for (i, set) in sets.iter().enumerate() {
-        places[i] = *set;
-    }
-    places
-}
-
 impl ListedRule {
     pub fn new(crew: u16, cover: u16, sets: &[u16]) -> Result<ListedRule, RuleFault>
-        ensures { Made (listed_fault crew cover sets.now) (listed_rule crew cover sets.now) (λ x. listed_rule x.crew x.cover (take x.many x.sets)) result }
+        ensures { Made (listed_fault crew cover sets.now) (listed_rule crew cover sets.now) (λ x. listed_rule x.crew x.cover (items_of x.sets)) result }
     {
         match listed_fault(crew, cover, sets) {
             Some(fault) => Err(fault),
             None => Ok(ListedRule {
                 crew: crew as u8,
                 cover: cover as u8,
-                many: sets.len(),
-                sets: placed(sets),
+                sets: Fixed::from_slice(0, sets).unwrap(),
             }),
         }
     }
 }
 
 impl FailureRule for ListedRule {
-    ghost meaning = { λ x. listed_rule x.crew x.cover (take x.many x.sets) };
+    ghost meaning = { λ x. listed_rule x.crew x.cover (items_of x.sets) };
 
-    ghost lawful = { λ x. listed_good x.crew x.cover (take x.many x.sets) x.good };
+    ghost lawful = { λ x. listed_good x.crew x.cover (items_of x.sets) x.good };
 
     fn crew(&self) -> u8 {
         self.crew
@@ -130,6 +105,6 @@ impl FailureRule for ListedRule {
     }
 
     fn may_fail(&self, set: u16) -> bool {
-        (set == 0) | in_one(&self.sets[0..self.many], set)
+        set == 0 || in_one(self.sets.as_slice(), set)
     }
 }

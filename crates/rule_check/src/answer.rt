@@ -1,28 +1,34 @@
 // What is answered to a line that gives a set.
 ghost use Rattle.std.specs.Prelude.{◌≡◌, Some};
 ghost use Rattle.quorum.specs.Meaning.{either_rule};
-ghost use Rattle.rule_check.specs.Answers.{answer_line, answer_of, word_if};
+ghost use Rattle.rule_check.specs.Answers.{answer_line, judged_in, word_if};
 
-use crate::number::number;
+use numerals::number;
 use quorum::{EitherRule, ample, strong};
 use std::fmt;
 
 #[derive(Clone, Copy)]
-pub enum Answer {
-    // The set, whether it is strong, whether it is ample.
-    Judged(u16, bool, bool),
-    // The line gives no set.
-    Unread,
+pub struct Judged {
+    pub set: u16,
+    pub is_strong: bool,
+    pub is_ample: bool,
 }
 
-pub fn answer_to(rule: &EitherRule, line: &[u8]) -> Answer
-    ensures { result ≡ answer_of (either_rule rule.now) line.now }
+// What is found of the set that the line gives, if it gives one.
+pub fn judge(rule: &EitherRule, line: &[u8]) -> Option<Judged>
+    ensures { result ≡ judged_in (either_rule rule.now) line.now }
 {
-    match number(line) {
-        None => Answer::Unread,
-        Some(set) => Answer::Judged(set, strong(rule, set), ample(rule, set)),
-    }
+    let set = number(line)?;
+    Some(Judged {
+        set,
+        is_strong: strong(rule, set),
+        is_ample: ample(rule, set),
+    })
 }
+
+// An answer as it is printed.
+#[derive(Clone, Copy)]
+pub struct Answer(pub Option<Judged>);
 
 // The word where it holds, else a dash.
 fn word(holds: bool, name: &'static str) -> &'static str
@@ -32,16 +38,15 @@ fn word(holds: bool, name: &'static str) -> &'static str
 }
 
 impl fmt::Display for Answer {
-    ghost output = { λ a. Some (answer_line a) };
+    ghost output = { λ a. Some (answer_line a.0) };
 
     fn fmt<W: fmt::Write>(&self, f: &mut fmt::Formatter<W>) -> fmt::Result {
-        match *self {
-            Answer::Unread => write!(f, "unreadable"),
-            Answer::Judged(set, strong, ample) => {
-                let strong = word(strong, "strong");
-                let ample = word(ample, "ample");
-                write!(f, "{set},{strong},{ample}")
-            }
-        }
+        let Some(judged) = self.0 else {
+            return write!(f, "unreadable");
+        };
+        let set = judged.set;
+        let strong = word(judged.is_strong, "strong");
+        let ample = word(judged.is_ample, "ample");
+        write!(f, "{set},{strong},{ample}")
     }
 }

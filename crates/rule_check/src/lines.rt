@@ -1,16 +1,17 @@
 // The lines of the input.
-ghost use Rattle.std.specs.Prelude.{◌≡◌, ◌≤◌, length};
-ghost use Rattle.rule_check.specs.Lines.{until_feed};
+ghost use Rattle.std.specs.Prelude.{◌≡◌, ◌<◌, [], length, MatchOption};
+ghost use Rattle.std.specs.List.{before_first, after_first};
+ghost use Rattle.rule_check.specs.Lines.{is_feed};
 
-// How many bytes the first line has, before its line feed or the end.
-pub fn line_length(input: &[u8]) -> usize
-    ensures value { result ≡ until_feed input.now }
-    ensures within { result ≤ length input.now }
+// The first line without its line feed, and what follows it, if there is any input.
+pub fn first_line(input: &[u8]) -> Option<(&[u8], &[u8])>
+    ensures { MatchOption result (input.now ≡ []) (λ p. (0 < length input.now) × (p.0.now ≡ before_first is_feed input.now) × (p.1.now ≡ after_first is_feed input.now)) }
 {
-    for (i, byte) in input.iter().enumerate() {
-        if *byte == b'\n' {
-            return i;
-        }
+    if input.is_empty() {
+        return None;
     }
-    input.len()
+    match input.iter().position(|byte| *byte == b'\n') {
+        Some(n) => Some((&input[..n], &input[n + 1..])),
+        None => Some((input, &[])),
+    }
 }

@@ -7,40 +7,35 @@
 
 mod answer;
 mod lines;
-mod number;
 mod reply;
 
-use answer::answer_to;
-use lines::line_length;
+use answer::{Answer, judge};
+use lines::first_line;
 use quorum::EitherRule;
-use reply::{Reply, read_rule};
+use reply::read_rule;
 use std::io;
 use std::io::Read;
 
 fn report_sets(rt: &HostRuntime, rule: &EitherRule, input: &[u8]) -> io::Result<()> {
     let mut rest = input;
-    while !rest.is_empty() {
-        let n = line_length(rest);
-        let answer = answer_to(rule, &rest[0..n]);
+    // stays a loop that cuts off line by line: `split` has one part more, behind the line feed at the end
+    while let Some((line, after)) = first_line(rest) {
+        let answer = Answer(judge(rule, line));
         println!(rt; "{answer}")?;
-        if n >= rest.len() {
-            return Ok(());
-        }
-        rest = &rest[n + 1..];
+        rest = after;
     }
     Ok(())
 }
 
 fn report(rt: &HostRuntime, input: &[u8]) -> io::Result<()> {
-    if input.is_empty() {
+    let Some((line, rest)) = first_line(input) else {
         return Ok(());
-    }
-    let n = line_length(input);
-    let reply = read_rule(rt.alloc(), &input[0..n])?;
+    };
+    let reply = read_rule(rt.alloc(), line)?;
     println!(rt; "{reply}")?;
-    match reply {
-        Reply::Good(rule) if n < input.len() => report_sets(rt, &rule, &input[n + 1..]),
-        _ => Ok(()),
+    match reply.0 {
+        Ok(rule) => report_sets(rt, &rule, rest),
+        Err(_) => Ok(()),
     }
 }
 

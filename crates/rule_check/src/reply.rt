@@ -3,84 +3,90 @@ ghost use Rattle.std.specs.Prelude.{◌≡◌, IfOk, Some};
 ghost use Rattle.rule_check.specs.Answers.{reply_line};
 ghost use Rattle.rule_check.specs.Lines.{asked_by, asked_in, count_asked, listed_asked};
 ghost use Rattle.rule_check.specs.Replies.{Replies};
+ghost use Rattle.rule_check.specs.declared.reply.NoRule.TheVariants.{Refused};
 
-use crate::number::numbers;
+use numerals::numbers;
 use quorum::{EitherRule, RuleFault};
 use std::alloc::{AllocError, Global};
 use std::fmt;
 
+// Why a line gives no rule.
 #[derive(Clone, Copy)]
-pub enum Reply {
-    Good(EitherRule),
+pub enum NoRule {
+    // This stands against the rule that it asks for.
     Refused(RuleFault),
+    // It asks for none.
     Unreadable,
 }
 
-fn count_reply(numbers: &[u16]) -> Reply
+impl From<RuleFault> for NoRule {
+    ghost from_gives = { λ e r. r ≡ Refused e };
+
+    fn from(fault: RuleFault) -> NoRule {
+        NoRule::Refused(fault)
+    }
+}
+
+fn count_rule(numbers: &[u16]) -> Result<EitherRule, NoRule>
     ensures { Replies (count_asked numbers.now) result }
 {
-    if numbers.len() != 3 {
-        return Reply::Unreadable;
-    }
-    match EitherRule::count(numbers[0], numbers[1], numbers[2]) {
-        Ok(rule) => Reply::Good(rule),
-        Err(fault) => Reply::Refused(fault),
-    }
+    let [crew, cover, f] = numbers else {
+        return Err(NoRule::Unreadable);
+    };
+    Ok(EitherRule::count(*crew, *cover, *f)?)
 }
 
-fn listed_reply(numbers: &[u16]) -> Reply
+fn listed_rule(numbers: &[u16]) -> Result<EitherRule, NoRule>
     ensures { Replies (listed_asked numbers.now) result }
 {
-    if numbers.len() < 3 {
-        return Reply::Unreadable;
+    let [crew, cover, many, sets @ ..] = numbers else {
+        return Err(NoRule::Unreadable);
+    };
+    if sets.len() != *many as usize {
+        return Err(NoRule::Unreadable);
     }
-    if numbers.len() != 3 + numbers[2] as usize {
-        return Reply::Unreadable;
-    }
-    match EitherRule::listed(numbers[0], numbers[1], &numbers[3..]) {
-        Ok(rule) => Reply::Good(rule),
-        Err(fault) => Reply::Refused(fault),
+    Ok(EitherRule::listed(*crew, *cover, sets)?)
+}
+
+// The rule that a letter and the numbers after it ask for.
+fn rule_by(letter: u8, numbers: &[u16]) -> Result<EitherRule, NoRule>
+    ensures { Replies (asked_by letter numbers.now) result }
+{
+    match letter {
+        b'c' => count_rule(numbers),
+        b'l' => listed_rule(numbers),
+        _ => Err(NoRule::Unreadable),
     }
 }
 
-// What is answered to a letter and the numbers after it.
-fn reply_to(letter: u8, numbers: &[u16]) -> Reply
-    ensures { Replies (asked_by letter numbers.now) result }
-{
-    match letter as char {
-        'c' => count_reply(numbers),
-        'l' => listed_reply(numbers),
-        _ => Reply::Unreadable,
-    }
-}
+// A reply as it is printed.
+#[derive(Clone, Copy)]
+pub struct Reply(pub Result<EitherRule, NoRule>);
 
 // What is answered to the first line: a letter, a comma, numbers.
 pub fn read_rule(heap: Global, line: &[u8]) -> Result<Reply, AllocError>
-    ensures { IfOk result (λ o. Replies (asked_in line.now) o) }
+    ensures { IfOk result (λ o. Replies (asked_in line.now) o.0) }
 {
-    if line.len() < 2 {
-        return Ok(Reply::Unreadable);
-    }
-    if line[1] != b',' {
-        return Ok(Reply::Unreadable);
-    }
-    match numbers(heap, &line[2..])? {
-        None => Ok(Reply::Unreadable),
-        Some(values) => Ok(reply_to(line[0], &values)),
+    let [letter, b',', rest @ ..] = line else {
+        return Ok(Reply(Err(NoRule::Unreadable)));
+    };
+    match numbers(heap, rest)? {
+        None => Ok(Reply(Err(NoRule::Unreadable))),
+        Some(values) => Ok(Reply(rule_by(*letter, &values))),
     }
 }
 
 impl fmt::Display for Reply {
-    ghost output = { λ r. Some (reply_line r) };
+    ghost output = { λ r. Some (reply_line r.0) };
 
     fn fmt<W: fmt::Write>(&self, f: &mut fmt::Formatter<W>) -> fmt::Result {
-        match self {
-            Reply::Good(_) => write!(f, "good"),
-            Reply::Refused(fault) => {
+        match self.0 {
+            Ok(_) => write!(f, "good"),
+            Err(NoRule::Refused(fault)) => {
                 let number = fault.number();
                 write!(f, "refused {number}")
             }
-            Reply::Unreadable => write!(f, "unreadable"),
+            Err(NoRule::Unreadable) => write!(f, "unreadable"),
         }
     }
 }
