@@ -19,9 +19,13 @@ value_of ds = fold (λ n d. n * 10 + (d - 48)) 0 ds
 abbrev pub number : List ℕ → ℕ
 number xs = value_of (take (run xs) xs)
 
--- the number, where 16 bits hold it
-abbrev pub within_16_bits : ℕ → Option ℕ
-within_16_bits n = cond (nat_lt n 65536) (Some n) None
+-- x, where 16 bits hold the number
+abbrev pub within_16_bits : {X : Type 0} → ℕ → X → Option X
+within_16_bits n x = cond (nat_lt n 65536) (Some x) None
+
+-- that number and the run's length, where 16 bits hold the number
+abbrev pub digits : List ℕ → Option (ℕ × ℕ)
+digits xs = within_16_bits (number xs) (number xs, run xs)
 
 -- a zero at the front that another digit follows
 abbrev pub zero_leads : List ℕ → Bool

@@ -1,6 +1,6 @@
 // Reads fields straight from the bytes that a port brought.
 ghost use Rattle.std.specs.Prelude.{◌≡◌, ℕ, ◌+◌, ◌*◌, ◌≤◌, length, IfOk};
-ghost use Rattle.wire.specs.Fields.{run, number, within_16_bits, zero_leads, field_at, after_byte, place_after};
+ghost use Rattle.wire.specs.Fields.{within_16_bits, digits, zero_leads, field_at, after_byte, place_after};
 
 use crate::fault::FrameFault;
 
@@ -28,15 +28,12 @@ impl<'a> Reader<'a> {
         ensures same { self.new.bytes.now ≡ self.old.bytes.now }
     {
         let rest = &self.bytes[self.place..];
-        let (number, len) = digits(rest);
-        if len == 0 {
-            return Err(FrameFault::NoDigit(self.place));
-        }
         if zero_leads(rest) {
             return Err(FrameFault::LeadingZero(self.place));
         }
-        match number {
-            Some(number) if (low..=high).contains(&number) => {
+        match digits(rest) {
+            Some((_, 0)) => Err(FrameFault::NoDigit(self.place)),
+            Some((number, len)) if (low..=high).contains(&number) => {
                 self.place += len;
                 Ok((number, self.place))
             }
@@ -68,25 +65,23 @@ fn zero_leads(bytes: &[u8]) -> bool
     }
 }
 
-// The number that the longest run of digits at the front writes, where 16 bits hold it, and the run's length.
-fn digits(bytes: &[u8]) -> (Option<u16>, usize)
-    ensures value { result.0 ≡ within_16_bits (number bytes.now) }
-    ensures len { result.1 ≡ run bytes.now }
+// The number that the longest run of digits at the front writes, and the run's length, where 16 bits hold the number.
+fn digits(bytes: &[u8]) -> Option<(u16, usize)>
+    ensures { result ≡ digits bytes.now }
 {
-    let mut number = Some(0);
+    let mut number = 0;
     for (i, byte) in bytes.iter().enumerate() {
         if !byte.is_ascii_digit() {
-            return (number, i);
+            return Some((number, i));
         }
-        let digit = byte - b'0';
-        number = number.and_then(|n| with_digit(n, digit));
+        number = with_digit(number, byte - b'0')?;
     }
-    (number, bytes.len())
+    Some((number, bytes.len()))
 }
 
 // The number with a digit more behind it, where 16 bits hold it.
 fn with_digit(number: u16, digit: u8) -> Option<u16>
-    ensures { result ≡ within_16_bits (number * 10 + digit) }
+    ensures { result ≡ within_16_bits (number * 10 + digit) (number * 10 + digit) }
 {
-    number.checked_mul(10)?.checked_add(digit as u16)
+    u16::try_from(number as u32 * 10 + digit as u32).ok()
 }
