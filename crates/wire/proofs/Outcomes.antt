@@ -1,5 +1,5 @@
 -- What an answer `Ok` says of the tests and steps it came through. Assumes nothing.
-use Rattle.std.proofs.Common.{◌≡◌, ℕ, Bool, true, false, cond, Ok, Err, Result, sym, refl, arith}
+use Rattle.std.proofs.Common.{◌≡◌, ℕ, Bool, true, false, cond, Some, None, Ok, Err, Result, sym, refl, arith}
 use Rattle.wire.specs.Fields.{and_then}
 
 module _ {X E : Type 0} where
@@ -23,3 +23,13 @@ module _ {X E : Type 0} where
 pub ok_then : {X Y E : Type 0} (r : Result X E) (f : X → Result Y E) (y : Y) → and_then r f ≡ Ok y → (x : X) × (r ≡ Ok x) × (f x ≡ Ok y)
 ok_then (Ok x) f y e = (x, refl, e)
 ok_then (Err d) f y e = ok_not_err y d (sym e)
+
+-- what is there under a test
+module _ {X : Type 0} where
+  pub held : (b : Bool) (x y : X) → cond b (Some x) None ≡ Some y → x ≡ y
+  held true x y e = cc
+  held false x y e = cc
+
+  pub not_held : (b : Bool) (x : X) → cond b (Some x) None ≡ None → b ≡ false
+  not_held true x e = cc
+  not_held false x e = refl

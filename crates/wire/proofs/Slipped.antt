@@ -16,12 +16,11 @@ use Rattle.wire.proofs.Outcomes.{ok_same, ok_not_err}
 use Rattle.wire.specs.Limits.{max_kind, max_value, frame_max}
 use Rattle.wire.proofs.Counting.{frames_weigh}
 use Rattle.wire.proofs.FrameText.{Ranges, carried_ranges, ranges_carried, frame_max_length, word_reads}
-use Rattle.wire.proofs.Ranging.{none_ranges}
 
--- a frame can carry the address where a word's own check found no fault
-pub address_sound : (p : Posted) (w : Word) → w ≡ word_of p 1 0 → range_fault w ≡ None → addressed p ≡ true
+-- a frame can carry the address of a word that it can carry
+pub address_sound : (p : Posted) (w : Word) → w ≡ word_of p 1 0 → Ranges w → addressed p ≡ true
 unfolding addressed
-address_sound p w is none = ranges_carried (word_of p 1 0) (none_ranges (word_of p 1 0) (ap range_fault (sym is) ∙ none))
+address_sound p w is r = ap carried (sym is) ∙ ranges_carried w r
 
 -- the address alone decides
 pub same_address : (p q : Posted) → q.group ≡ p.group → q.change ≡ p.change → q.sender ≡ p.sender → addressed p ≡ true → addressed q ≡ true
