@@ -1,3 +1,4 @@
+pub mod Limits
 pub mod Search
 pub mod History
 pub mod Setting
