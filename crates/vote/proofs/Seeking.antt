@@ -52,7 +52,7 @@ all_from n p f =
     (cases_Bool (given (seek n (λ i. not (p i)))))
 
 -- ---- a look from 0 up to k: what passed first, with what came before it, or that nothing passed
-nothing_below : (n : ℕ) (p : ℕ → Bool) → ((v : ℕ) → v < n → p v ≡ false) → seek n p ≡ None
+pub nothing_below : (n : ℕ) (p : ℕ → Bool) → ((v : ℕ) → v < n → p v ≡ false) → seek n p ≡ None
 unfolding seek
 nothing_below zero p f = refl
 nothing_below (suc n) p f = rw (nothing_below n p (λ v h. f v (omega arith)), f n (omega arith))
