@@ -1,5 +1,5 @@
 // What the record holds of the seven tests, and what those that it has no answer of find now.
-ghost use Rattle.std.specs.Prelude.{◌≡◌};
+ghost use Rattle.std.specs.Prelude.{◌≡◌, Some, MatchOption};
 ghost use Rattle.echo_board.specs.Steps.{completing, findings_of};
 ghost use Rattle.heard.specs.Shown.{heard_of, setting};
 ghost use Rattle.vote.specs.History.{Seen};
@@ -20,6 +20,17 @@ pub(crate) struct Findings {
     pub(crate) decision: Option<Decision>,
 }
 
+// What is held, or else what is found. `or_else` tells a caller nothing of a test under a rule: it takes the closure as an FnOnce.
+fn held_or<T, F: Fn() -> Option<T>>(held: Option<T>, find: F) -> Option<T>
+    requires { F.pre find }
+    ensures { MatchOption held (F.post find result) (λ x. result ≡ Some x) }
+{
+    match held {
+        None => find(),
+        held => held,
+    }
+}
+
 impl EchoRecord {
     // Makes the tests of which there is no answer yet; at depth 1 the outcome decides, and there are no kinds 4 and 5.
     pub(crate) fn find<R: FailureRule>(&self, voting: &Voting<R>) -> Findings
@@ -27,8 +38,8 @@ impl EchoRecord {
     {
         let heard = &self.heard;
         let echoes = heard.echoes(voting);
-        let second = self.second.or_else(|| heard.second(voting));
-        let third = self.third.or_else(|| heard.third(voting));
+        let second = held_or(self.second, || heard.second(voting));
+        let third = held_or(self.third, || heard.third(voting));
         match voting.depth {
             Depth::One => Findings {
                 echoes,
@@ -36,15 +47,15 @@ impl EchoRecord {
                 third,
                 fourth: self.fourth,
                 fifth: self.fifth,
-                decision: self.decision.or_else(|| decision(1, heard.outcome(voting))),
+                decision: held_or(self.decision, || decision(1, heard.outcome(voting))),
             },
             Depth::Two => Findings {
                 echoes,
                 second,
                 third,
-                fourth: self.fourth.or_else(|| heard.outcome(voting)),
-                fifth: self.fifth.or_else(|| heard.fifth(voting)),
-                decision: self.decision.or_else(|| heard.verdict(voting)),
+                fourth: held_or(self.fourth, || heard.outcome(voting)),
+                fifth: held_or(self.fifth, || heard.fifth(voting)),
+                decision: held_or(self.decision, || heard.verdict(voting)),
             },
         }
     }
