@@ -21,6 +21,17 @@ findings_of S x = record {
   decision = verdict S S.depth x;
 }
 
+-- what is kept of the findings f: what the record o holds, and otherwise what is found
+abbrev pub completing : EchoRecord → Findings → Findings
+completing o f = record {
+  echoes = f.echoes;
+  second = or_else o.second f.second;
+  third = or_else o.third f.third;
+  fourth = or_else o.fourth f.fourth;
+  fifth = or_else o.fifth f.fifth;
+  decision = or_else o.decision f.decision;
+}
+
 -- the record o with other votes counted
 abbrev pub hearing : EchoRecord → Heard → EchoRecord
 hearing o y = record { heard = y; echoed = o.echoed; second = o.second; third = o.third; fourth = o.fourth; fifth = o.fifth; decision = o.decision }

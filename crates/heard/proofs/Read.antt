@@ -1,5 +1,5 @@
 -- What the sets of senders say of that which they show. Assumes nothing.
-use Rattle.std.proofs.Common.{◌≡◌, ℕ, suc, ◌<◌, ◌≤◌, get_or, ap, ◌∙◌, arith}
+use Rattle.std.proofs.Common.{◌≡◌, ℕ, suc, ◌-◌, ◌<◌, ◌≤◌, get_or, ap, ◌∙◌, arith}
 use Rattle.std.proofs.lemmas.List.FromFn.{get_or-map-range_with_len}
 use Rattle.quorum.specs.Sets.{set_of}
 use Rattle.vote.specs.History.{Seen, says, speaks}
@@ -27,3 +27,7 @@ module _ (n : ℕ) (o : Heard) (x : Seen) (e : o ≡ heard_of n x) where
   pub all_at : (j : ℕ) → j < 5 → (get_or o.first j beyond).all ≡ set_of n (speaks x (suc j))
   unfolding tally_of
   all_at j h = ap (λ (t : Tally). t.all) (first_at j h)
+
+  -- the kind, counted from 1
+  pub first_of : (c : ℕ) → 1 ≤ c → c ≤ 5 → get_or o.first (c - 1) beyond ≡ tally_of n (x.first c)
+  first_of c one five = let q : suc (c - 1) ≡ c = omega arith in first_at (c - 1) (omega arith) ∙ ap (λ (z : ℕ). tally_of n (x.first z)) q
