@@ -2,3 +2,4 @@ pub mod Search
 pub mod History
 pub mod Setting
 pub mod News
+pub mod Conversions

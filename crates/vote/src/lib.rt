@@ -3,6 +3,10 @@
 
 #![tactic(auto)]
 
+pub mod conversions;
+
+pub use conversions::{UnknownDepth, UnknownMethod};
+
 // One word as a board counts it. Group and change are the board's own.
 #[derive(Clone, Copy, PartialEq, Eq, Debug)]
 pub struct Vote {
