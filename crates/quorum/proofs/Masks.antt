@@ -2,9 +2,8 @@
 use Rattle.std.proofs.Common.{◌≡◌, ℕ, zero, suc, ◌+◌, ◌-◌, ◌*◌, ◌/◌, ◌%◌, ◌^◌, ◌<◌, ◌≤◌, Bool, true, false, cond, not, ◌&&◌, ◌||◌, eqb, sym, refl, ap, ◌∙◌, ⊎_elim, pow-suc, add-one, arith}
 use lib.Bits.{bit_or, bit_and}
 use Rattle.std.proofs.lemmas.Nat.{mod-pow-add}
-use Rattle.std.proofs.lemmas.Bool.{ne_eqb, cases_lt}
+use Rattle.std.proofs.lemmas.Bool.{ne_eqb, cases_lt, false_from_ne_true}
 use Rattle.quorum.specs.Sets.{member, set_of, rest}
-use Rattle.quorum.specs.Truth.{false_unless}
 use Rattle.quorum.specs.Members.{member_or, member_and, member_bit, member_ext, member_lt, member_set_of, member_beyond}
 
 -- s is the set of the boards below n that pass p, if it has just those and none from n up
@@ -33,7 +32,7 @@ set_of_insert n p j l =
 
 -- a number below 2 to the power n is the set of its members
 pub set_of_member : (n s : ℕ) → s < 2 ^ n → set_of n (λ i. member i s) ≡ s
-set_of_member n s l = set_of_is n s _ (λ i h. refl) (λ i h. false_unless _ (λ e. let k = member_lt n s i l e in omega arith))
+set_of_member n s l = set_of_is n s _ (λ i h. refl) (λ i h. false_from_ne_true _ (λ e. let k = member_lt n s i l e in omega arith))
 
 bit_le : (b : Bool) → cond b 1 0 ≤ 1
 bit_le true = omega arith

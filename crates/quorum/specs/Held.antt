@@ -3,18 +3,18 @@ use Rattle.std.specs.Prelude.{◌≡◌, ℕ, zero, suc, ◌-◌, ◌^◌, ◌<�
 use Rattle.std.proofs.Math.Path.{sym, ap}
 use Rattle.std.proofs.Common.{◌∙◌, ⊎_elim}
 use native.Mathlib.Omega.{arith}
-use Rattle.std.proofs.lemmas.Bool.{false≢true, eqb-true, eq-eqb, ne_eqb, ltb-true, and_parts, or_cases, or_parts, or_left, or_right, not-true}
+use Rattle.std.proofs.lemmas.Bool.{false≢true, eqb-true, eq-eqb, ne_eqb, ltb-true, and_parts, or_cases, or_parts, or_left, or_right, not-true, false_from_ne_true}
 use Rattle.std.specs.List.{list_any, list_all}
 use Rattle.quorum.specs.Sets.{member, rest, part, in_crew, whole, in_some}
 use Rattle.quorum.specs.Rules.{Lawful}
 use Rattle.quorum.specs.Listing.{listed, listed_rule, held}
-use Rattle.quorum.specs.Truth.{clash, false_since, false_unless, any_found, any_weaker, none_pass}
+use Rattle.quorum.specs.Truth.{clash, false_since, any_found, any_weaker, none_pass}
 use Rattle.quorum.specs.Members.{member_none, member_lt, member_or, member_ext, member_rest, rest_below, part_found, part_from}
 
 -- a set with every board of the crew is the whole crew
 pub whole_from : (n s : ℕ) → ((i : ℕ) → i < n → member i s ≡ true) → whole n s ≡ true
 whole_from n s f =
-    eq-eqb _ _ (member_ext (rest n s) 0 (λ i. false_unless _ (λ m. let l = rest_below n s i m in clash (f i l) (not-true _ (sym (member_rest n s i l) ∙ m))) ∙ sym (member_none i)))
+    eq-eqb _ _ (member_ext (rest n s) 0 (λ i. false_from_ne_true _ (λ m. let l = rest_below n s i m in clash (f i l) (not-true _ (sym (member_rest n s i l) ∙ m))) ∙ sym (member_none i)))
 
 -- what is held with c listed sets is held with one more
 held_more : (n : ℕ) (ms : List ℕ) (c a : ℕ) → held n ms c a ≡ true → held n ms (suc c) a ≡ true
@@ -70,7 +70,7 @@ pub listed_lawful : (n c : ℕ) (ms : List ℕ) → list_all (in_crew n) ms ≡ 
 listed_lawful n c ms small spare = record {
   nobody_fails = refl;
   parts_fail = λ s t w h. ⊎_elim
-      (λ e. or_left (s == 0) _ (eq-eqb s 0 (member_ext s 0 (λ i. false_unless _ (λ m. clash (w i m) (ap (member i) (eqb-true t 0 e) ∙ member_none i)) ∙ sym (member_none i)))))
+      (λ e. or_left (s == 0) _ (eq-eqb s 0 (member_ext s 0 (λ i. false_from_ne_true _ (λ m. clash (w i m) (ap (member i) (eqb-true t 0 e) ∙ member_none i)) ∙ sym (member_none i)))))
       (λ e. or_right (s == 0) _ (any_weaker (part t) (part s) (λ m g. part_from s m (λ i q. part_found t m g i (w i q))) ms e))
       (or_cases (t == 0) (list_any (part t) ms) h);
   inside_crew = λ s i h m. ⊎_elim

@@ -5,9 +5,9 @@ use Rattle.std.proofs.Math.Nat.{div-div-eq-div-mul}
 use Rattle.std.proofs.Math.Arith.{bin_ind}
 use Rattle.std.specs.Int.Bits.{or_step, and_step}
 use Rattle.std.proofs.Math.Dec.{eqb-suc-suc, eqb-zero-suc, eqb-suc-zero}
-use Rattle.std.proofs.lemmas.Bool.{eq-eqb, ne_eqb, eqb-true, or_left}
+use Rattle.std.proofs.lemmas.Bool.{eq-eqb, ne_eqb, eqb-true, or_left, false_from_ne_true}
 use Rattle.quorum.specs.Sets.{member, set_of, rest, Part, part}
-use Rattle.quorum.specs.Truth.{clash, false_unless}
+use Rattle.quorum.specs.Truth.{clash}
 
 -- ---- a member, by the number's bits
 pub member_is : (i s : ℕ) → member i s ≡ ((s / 2 ^ i) % 2 == 1)
@@ -113,7 +113,7 @@ member_below (suc n) p (suc i) h =
     let k = member_below n (λ i. p (suc i)) i (sym (ap (member i) (halve (set_of n (λ i. p (suc i))) (p 0))) ∙ h) in omega arith
 
 pub member_beyond : (n : ℕ) (p : ℕ → Bool) (i : ℕ) → n ≤ i → member i (set_of n p) ≡ false
-member_beyond n p i h = false_unless _ (λ e. let k = member_below n p i e in omega arith)
+member_beyond n p i h = false_from_ne_true _ (λ e. let k = member_below n p i e in omega arith)
 
 -- ---- the rest of a crew
 pub member_rest : (n s i : ℕ) → i < n → member i (rest n s) ≡ not (member i s)

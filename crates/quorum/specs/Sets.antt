@@ -1,5 +1,6 @@
 -- Sets of boards as numbers: board i adds 2 to the power i. Everything about a set is read board by board. Assumes nothing.
-use Rattle.std.specs.Prelude.{◌≡◌, ℕ, zero, suc, ◌+◌, ◌*◌, ◌/◌, ◌%◌, ◌^◌, Bool, true, false, cond, not, ◌&&◌, ◌||◌, List, [], ◌∷◌, ◌==◌, bit_or, nat_lt}
+use Rattle.std.specs.Prelude.{◌≡◌, ℕ, zero, suc, ◌+◌, ◌*◌, ◌/◌, ◌%◌, ◌^◌, Bool, true, cond, not, List, ◌==◌, bit_or, nat_lt}
+use Rattle.std.specs.List.{list_any, list_all}
 
 -- board i is in the set s: bit i of the number s
 unfoldable pub member : ℕ → ℕ → Bool
@@ -34,9 +35,7 @@ whole n s = rest n s == 0
 
 -- board i is in some set of the list, and in each
 abbrev pub in_some : ℕ → List ℕ → Bool
-in_some i [] = false
-in_some i (s ∷ ss) = member i s || in_some i ss
+in_some i ss = list_any (member i) ss
 
 abbrev pub in_each : ℕ → List ℕ → Bool
-in_each i [] = true
-in_each i (s ∷ ss) = member i s && in_each i ss
+in_each i ss = list_all (member i) ss

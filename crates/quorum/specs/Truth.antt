@@ -1,8 +1,9 @@
 -- Tests that are true or false, tests over a list of sets, and a search below a bound. Assumes nothing.
-use Rattle.std.specs.Prelude.{◌≡◌, ℕ, zero, suc, ◌<◌, Bool, true, false, not, ◌⊎◌, List, [], ◌∷◌, ◌≢◌, refl}
+use Rattle.std.specs.Prelude.{◌≡◌, ℕ, zero, suc, ◌<◌, Bool, true, false, not, ◌⊎◌, List, [], ◌∷◌, refl}
 use Rattle.std.proofs.Common.{sym, ◌∙◌, inl, inr, ⊎_elim, not-suc-le-zero, arith}
-use Rattle.std.proofs.lemmas.Bool.{true≢false, false≢true, and_parts, and_from, or_cases, or_parts, or_left, or_right, not_from_false, cases_Bool, cases_eq}
+use Rattle.std.proofs.lemmas.Bool.{true≢false, false≢true, and_parts, and_from, or_cases, or_parts, or_left, or_right, not_from_false, false_from_ne_true, cases_Bool, cases_eq}
 use Rattle.std.specs.List.{list_any, list_all}
+pub use Rattle.std.proofs.lemmas.Bool.{false_from_ne_true as false_unless}
 
 -- a test is not both true and false
 pub clash : {X : Type 0} {b : Bool} → b ≡ true → b ≡ false → X
@@ -12,14 +13,10 @@ pub false_since : (a b : Bool) → (a ≡ true → b ≡ true) → b ≡ false �
 false_since true b f h = clash (f refl) h
 false_since false b f h = refl
 
-pub false_unless : (b : Bool) → (b ≢ true) → b ≡ false
-false_unless true f = absurd (f refl)
-false_unless false f = refl
-
 -- two tests that imply each other are equal
 pub same_truth : (a b : Bool) → (a ≡ true → b ≡ true) → (b ≡ true → a ≡ true) → a ≡ b
 same_truth true b f g = sym (f refl)
-same_truth false b f g = sym (false_unless b (λ h. false≢true (g h)))
+same_truth false b f g = sym (false_from_ne_true b (λ h. false≢true (g h)))
 
 -- every number below n passes, or one does not
 pub all_or : (n : ℕ) (p : ℕ → Bool) → ((i : ℕ) → i < n → p i ≡ true) ⊎ ((i : ℕ) × (i < n) × (p i ≡ false))

@@ -39,6 +39,7 @@ impl From<RuleFault> for Refusal {
 }
 
 // What stands against a crew of this size and this cover, whatever the kind of the rule, if anything does.
+// Stays an `Option`, as `count_fault` and `listed_fault` do: the fault is what is asked for, and to find none is no failure.
 pub fn size_fault(crew: u16, cover: u16) -> Option<RuleFault>
     ensures { result ≡ size_fault crew cover None }
 {

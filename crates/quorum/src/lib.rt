@@ -1,9 +1,9 @@
 // Sets of boards, and which boards of a crew may fail together.
 //
-// A set of boards is a number, to which board i adds 2 to the power i. A failure rule says how many boards the crew has, which sets of them
-// may fail together (the family), and how many sets of the family never hold the whole crew between them (the cover). `rule` is the interface, with
-// its four laws; `count`, `listed` and `either` are the rules that this crate makes; `ask` says of a set, under any rule, whether it is strong or ample,
-// with the facts that everything above rests on. Frames, votes and who sends what are left to others.
+// A set of boards is a number, to which board i adds 2 to the power i; `set` tests members, parts and crews. A failure rule says how many boards
+// the crew has, which sets of them may fail together (the family), and how many sets of the family never hold the whole crew between them (the
+// cover). `rule` is the interface, with its four laws; `count`, `listed` and `either` are the rules that this crate makes; `ask` says of a set, under
+// any rule, whether it is strong or ample, with the facts that everything above rests on. Frames, votes and who sends what are left to others.
 
 #![tactic(auto)]
 

@@ -13,8 +13,8 @@ abbrev pub judged : Rule → Option ℕ → Option Judged
 judged R None = None
 judged R (Some s) = Some (record { set = s; is_strong = strong R s; is_ample = ample R s })
 
-abbrev pub judged_in : Rule → List ℕ → Option Judged
-judged_in R line = judged R (number_in line)
+abbrev pub answer_of : Rule → List ℕ → Option Judged
+answer_of R line = judged R (number_in line)
 
 -- a word where it holds, else a dash
 abbrev pub word_if : Bool → List ℕ → List ℕ

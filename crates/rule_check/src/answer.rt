@@ -1,7 +1,7 @@
 // What is answered to a line that gives a set.
 ghost use Rattle.std.specs.Prelude.{◌≡◌, Some};
 ghost use Rattle.quorum.specs.Meaning.{either_rule};
-ghost use Rattle.rule_check.specs.Answers.{answer_line, judged_in, word_if};
+ghost use Rattle.rule_check.specs.Answers.{answer_line, answer_of, word_if};
 
 use numerals::number;
 use quorum::{EitherRule, ample, strong};
@@ -15,8 +15,8 @@ pub struct Judged {
 }
 
 // What is found of the set that the line gives, if it gives one.
-pub fn judge(rule: &EitherRule, line: &[u8]) -> Option<Judged>
-    ensures { result ≡ judged_in (either_rule rule.now) line.now }
+pub fn answer_to(rule: &EitherRule, line: &[u8]) -> Option<Judged>
+    ensures { result ≡ answer_of (either_rule rule.now) line.now }
 {
     let set = number(line)?;
     Some(Judged {

@@ -9,7 +9,7 @@ mod answer;
 mod lines;
 mod reply;
 
-use answer::{Answer, judge};
+use answer::{Answer, answer_to};
 use lines::first_line;
 use quorum::EitherRule;
 use reply::read_rule;
@@ -20,7 +20,7 @@ fn report_sets(rt: &HostRuntime, rule: &EitherRule, input: &[u8]) -> io::Result<
     let mut rest = input;
     // stays a loop that cuts off line by line: `split` has one part more, behind the line feed at the end
     while let Some((line, after)) = first_line(rest) {
-        let answer = Answer(judge(rule, line));
+        let answer = Answer(answer_to(rule, line));
         println!(rt; "{answer}")?;
         rest = after;
     }
