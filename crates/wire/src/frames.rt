@@ -56,8 +56,8 @@ impl Posted {
         ensures buffer { buf.new ≡ put_front (frames_of self.now) buf.old }
     {
         let mut len = 0;
-        for index in 0..KINDS as u8 {
-            len += self.put_kind(index + 1, &mut buf[len..]);
+        for kind in 1..=KINDS as u8 {
+            len += self.put_kind(kind, &mut buf[len..]);
         }
         len
     }
