@@ -5,6 +5,7 @@ use Rattle.std.specs.List.{flat_map, sum_by}
 use Rattle.std.proofs.lemmas.List.Sums.{sum_by_push}
 use Rattle.std.proofs.lemmas.Nat.{mod-pow-add, mod_below, pow_pos, ones-le}
 use Rattle.std.proofs.lemmas.List.{length-append, length_push, append-nil, nil_from_length, take_more, take_all}
+use Rattle.std.proofs.lemmas.Bool.{cond-true, cond-false, eq-eqb, ne_eqb}
 use Rattle.std.proofs.lemmas.Fmt.{decimal_digit}
 use Rattle.wire.specs.declared.posted.Posted.{Posted}
 use Rattle.wire.specs.declared.word.Word.{Word}
@@ -47,6 +48,13 @@ module _ (p : Posted) where
   -- a set without values
   pub none_of_kind : (k : ℕ) → get_or p.kinds (k - 1) 0 % 512 ≡ 0 → words_of_kind p k ≡ []
   none_of_kind k none = nil_from_length (words_of_kind p k) (sym (kind_count k) ∙ ap ones none ∙ ones_bit 0 (lit< tt))
+
+  -- the frame of a value that a set has, and of one that it has not
+  pub held_frame : (k v : ℕ) → get_or p.kinds (k - 1) 0 / 2 ^ v % 2 ≡ 1 → flat_map frame_of (if_held p k v) ≡ frame_of (word_of p k v)
+  held_frame k v one = ap (flat_map frame_of) (cond-true (holds p k v) _ _ (eq-eqb (get_or p.kinds (k - 1) 0 / 2 ^ v % 2) 1 one)) ∙ append-nil (frame_of (word_of p k v))
+
+  pub none_held : (k v : ℕ) → (get_or p.kinds (k - 1) 0 / 2 ^ v % 2 ≡ 1 → ⊥) → flat_map frame_of (if_held p k v) ≡ []
+  none_held k v other = ap (flat_map frame_of) (cond-false (holds p k v) _ _ (ne_eqb (get_or p.kinds (k - 1) 0 / 2 ^ v % 2) 1 other))
 
   -- every frame of a slip has the same length
   same_length : (k v : ℕ) → k < 10 → v < 10 → length (frame_of (word_of p k v)) ≡ length (frame_of (word_of p 1 0))
