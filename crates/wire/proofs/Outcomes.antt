@@ -1,5 +1,5 @@
 -- What an answer `Ok` says of the tests and steps it came through. Assumes nothing.
-use Rattle.std.proofs.Common.{◌≡◌, ℕ, Bool, true, false, cond, Some, None, Ok, Err, Result, sym, refl, arith}
+use Rattle.std.proofs.Common.{◌≡◌, Bool, true, false, cond, Some, None, Ok, Err, Result, refl}
 use Rattle.wire.specs.Fields.{and_then}
 
 module _ {X E : Type 0} where

@@ -1,17 +1,17 @@
 -- What a slip holds after a word is posted and after it is written. Assumes nothing.
-use Rattle.std.proofs.Common.{w16, ◌≡◌, ℕ, ◌+◌, ◌-◌, ◌*◌, ◌/◌, ◌%◌, ◌^◌, ◌<◌, ◌≤◌, max, Bool, true, false, ◌&&◌, ◌||◌, eqb, [], length, get_or, set, IfOk, Some, None, Ok, Err, Option, Result, sym, refl, ap, ◌∙◌, ap₂, ⊎_elim, mul-le-mul_left, one-mul, arith, lit≤}
+use Rattle.std.proofs.Common.{w16, ◌≡◌, ℕ, ◌-◌, ◌*◌, ◌%◌, ◌^◌, ◌<◌, ◌≤◌, true, ◌&&◌, ◌||◌, eqb, [], length, get_or, set, IfOk, Some, None, Ok, Err, Option, Result, sym, refl, ap, ◌∙◌, ap₂, ⊎_elim, mul-le-mul_left, arith, lit≤}
 use lib.Bits.{bit_or}
 use Rattle.std.proofs.Math.Bool.{or-true, or-false}
 use Rattle.std.proofs.lemmas.Nat.Bits.{bit_at_set_same, bit_at_set_other}
 use Rattle.std.proofs.lemmas.List.{get_or-set_same, get_or-set_other}
-use Rattle.std.proofs.lemmas.Bool.{eq-eqb, ne_eqb, cases_eq, cases_order}
+use Rattle.std.proofs.lemmas.Bool.{eq-eqb, ne_eqb, cases_eq}
 use Rattle.wire.specs.declared.fault.FrameFault.{FrameFault}
 use Rattle.wire.specs.declared.slip.Slip.{Slip}
 use Rattle.wire.specs.declared.posted.Posted.{Posted}
 use Rattle.wire.specs.declared.word.Word.{Word}
 use Rattle.wire.specs.Frames.{carried}
-use Rattle.wire.specs.Slips.{has, holds, word_of, words_of_kind, words_of, none_posted, with_word, OneMore, ReadsBack, frames_of, addressed, mapped}
-use Rattle.wire.specs.Writes.{range_fault, unless}
+use Rattle.wire.specs.Slips.{has, holds, word_of, words_of_kind, words_of, none_posted, OneMore, ReadsBack, frames_of, addressed, mapped}
+use Rattle.wire.specs.Writes.{unless}
 use Rattle.wire.proofs.Outcomes.{ok_same, ok_not_err}
 use Rattle.wire.specs.Limits.{max_kind, max_value, frame_max}
 use Rattle.wire.proofs.Counting.{frames_weigh}

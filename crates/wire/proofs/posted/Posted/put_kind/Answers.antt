@@ -30,16 +30,16 @@ loop-value-preserved c =
     let k = c.args.kind in
     let l = c.loop-value in
     elim c.if-values-value-eq1.branch [
-        then-values-value-eq1 w ↦
-            let put = w.put_frame-len in
-            let bytes_are : frame_of w.word.result ≡ flat_map frame_of (if_held p k l.value) = ap frame_of w.word.ensures ∙ sym (held_frame p k l.value w.if-values-value-eq1.true) in
-            let more =
-            putting_more frame_of (if_held p k) c.args.buf.now 9 c.requires.room l.value l.len l.buf (omega arith) l.invariant put.result put.new.buf
-            (put.ensures.value ∙ ap length bytes_are) (put.ensures.buffer ∙ ap (λ b. put_front b (take (length l.buf - l.len) (drop l.len l.buf))) bytes_are) in
-            (w.len-is ∙ more.0, w.buf-is ∙ more.1)
+      | then-values-value-eq1 w ↦
+          let put = w.put_frame-len in
+          let bytes_are : frame_of w.word.result ≡ flat_map frame_of (if_held p k l.value) = ap frame_of w.word.ensures ∙ sym (held_frame p k l.value w.if-values-value-eq1.true) in
+          let more =
+          putting_more frame_of (if_held p k) c.args.buf.now 9 c.requires.room l.value l.len l.buf (omega arith) l.invariant put.result put.new.buf
+          (put.ensures.value ∙ ap length bytes_are) (put.ensures.buffer ∙ ap (λ b. put_front b (take (length l.buf - l.len) (drop l.len l.buf))) bytes_are) in
+          (w.len-is ∙ more.0, w.buf-is ∙ more.1)
       | else-values-value-eq1 w ↦
-            let same = putting_none frame_of (if_held p k) c.args.buf.now 9 c.requires.room l.value l.len l.buf (omega arith) l.invariant (none_held p k l.value w.if-values-value-eq1.false) in
-            (w.len-is ∙ same.0, w.buf-is ∙ same.1)
+          let same = putting_none frame_of (if_held p k) c.args.buf.now 9 c.requires.room l.value l.len l.buf (omega arith) l.invariant (none_held p k l.value w.if-values-value-eq1.false) in
+          (w.len-is ∙ same.0, w.buf-is ∙ same.1)
     ]
 
 pub returns : goal.returns
