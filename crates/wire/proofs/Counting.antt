@@ -6,7 +6,6 @@ use Rattle.std.proofs.lemmas.List.Sums.{sum_by_push}
 use Rattle.std.proofs.lemmas.Nat.{mod-pow-add, mod_below, pow_pos, ones-le}
 use Rattle.std.proofs.lemmas.List.{length-append, length_push, append-nil, nil_from_length, take_more, take_all}
 use Rattle.std.proofs.lemmas.Bool.{cond-true, cond-false, eq-eqb, ne_eqb}
-use Rattle.std.proofs.lemmas.Fmt.{decimal_digit}
 use Rattle.wire.specs.declared.posted.Posted.{Posted}
 use Rattle.wire.specs.declared.word.Word.{Word}
 use Rattle.wire.specs.Frames.{frame_of}
@@ -14,6 +13,7 @@ use Rattle.wire.specs.Limits.{comma, line_feed}
 use Rattle.wire.specs.Slips.{has, in_order, word_of, holds, if_held, words_of_kind, words_of, frames_of}
 use Rattle.wire.proofs.FrameText.{frame_length}
 use Rattle.wire.proofs.InOrder.{joined_weighs}
+use Rattle.wire.proofs.Widths.{width_one}
 
 ones_bit : (b : ℕ) → b < 2 → ones b ≡ b
 unfolding ones
@@ -67,10 +67,10 @@ module _ (p : Posted) where
         length_push (decimal v) line_feed,
         length_push (decimal 1) comma,
         length_push (decimal 0) line_feed,
-        ap length (decimal_digit k kh),
-        ap length (decimal_digit v vh),
-        ap length (decimal_digit 1 (lit< tt)),
-        ap length (decimal_digit 0 (lit< tt)),
+        width_one k kh,
+        width_one v vh,
+        width_one 1 (lit< tt),
+        width_one 0 (lit< tt),
       )
 
   length_held : (b : Bool) (w : Word) → length (flat_map frame_of (cond b (w ∷ []) [])) ≡ length (cond b (w ∷ []) []) * length (frame_of w)

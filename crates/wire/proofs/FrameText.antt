@@ -201,7 +201,7 @@ frame_is xs p x so =
     let k = ok_then (ended_field xs s.0.1 1 max_kind comma) _ x s.2 in
     let v = ok_then (ended_field xs k.0.1 0 max_value line_feed) _ x k.2 in
     let is : (read_word xs p g.0 c.0 s.0 k.0 v.0, v.0.1) ≡ x = ok_same (read_word xs p g.0 c.0 s.0 k.0 v.0, v.0.1) x v.2 in
-    subst (λ (y : Word × ℕ). Ranges y.0 × (drop p xs ≡ frame_of y.0 ++ drop y.1 xs) × (y.1 ≡ p + length (frame_of y.0))) is
+    subst (λ (y : Word × ℕ). Ranges y.0 × (drop p xs ≡ frame_of y.0 ++ drop y.1 xs) × (y.1 ≡ p + length (frame_of y.0))) {x = (read_word xs p g.0 c.0 s.0 k.0 v.0, v.0.1)} is
     (fields_are xs p g.0 c.0 s.0 k.0 v.0 g.1 c.1 s.1 k.1 v.1)
 
 -- that frame reads back as the word
