@@ -1,8 +1,9 @@
 -- What a slip holds after a word is posted and after it is written. Assumes nothing.
-use Rattle.std.proofs.Common.{w16, ◌≡◌, ℕ, ◌-◌, ◌*◌, ◌%◌, ◌^◌, ◌<◌, ◌≤◌, true, ◌&&◌, ◌||◌, eqb, [], length, get_or, set, IfOk, Some, None, Ok, Err, Option, Result, sym, refl, ap, ◌∙◌, ap₂, ⊎_elim, mul-le-mul_left, arith, lit≤}
+use Rattle.std.proofs.Common.{max, ◌≡◌, ℕ, ◌-◌, ◌*◌, ◌^◌, ◌≤◌, true, ◌&&◌, ◌||◌, eqb, [], length, get_or, set, IfOk, Some, None, Ok, Err, Option, Result, sym, refl, ap, ◌∙◌, ap₂, ⊎_elim, mul-le-mul_left, arith, lit≤}
 use lib.Bits.{bit_or}
 use Rattle.std.proofs.Math.Bool.{or-true, or-false}
-use Rattle.std.proofs.lemmas.Nat.Bits.{bit_at_set_same, bit_at_set_other}
+use Rattle.std.proofs.lemmas.Nat.Bits.{bit_at-lt, bit_at_or, bit_at-pow_same, bit_at-pow_other}
+use Rattle.std.specs.Int.{bit_at}
 use Rattle.std.proofs.lemmas.List.{get_or-set_same, get_or-set_other}
 use Rattle.std.proofs.lemmas.Bool.{eq-eqb, ne_eqb, cases_eq}
 use Rattle.wire.specs.declared.fault.FrameFault.{FrameFault}
@@ -10,7 +11,7 @@ use Rattle.wire.specs.declared.slip.Slip.{Slip}
 use Rattle.wire.specs.declared.posted.Posted.{Posted}
 use Rattle.wire.specs.declared.word.Word.{Word}
 use Rattle.wire.specs.Frames.{carried}
-use Rattle.wire.specs.Slips.{has, holds, word_of, words_of_kind, words_of, none_posted, OneMore, ReadsBack, frames_of, addressed, mapped}
+use Rattle.wire.specs.Slips.{has, holds, word_of, words_of_kind, words_of, none_posted, with_word, OneMore, ReadsBack, frames_of, addressed, mapped}
 use Rattle.wire.specs.Writes.{unless}
 use Rattle.wire.proofs.Outcomes.{ok_same, ok_not_err}
 use Rattle.wire.specs.Limits.{max_kind, max_value, frame_max}
@@ -47,26 +48,29 @@ unfolding words_of words_of_kind
 none_posted_none g c s = refl
 
 -- a set with one value more
-value_added : (m v u : ℕ) → v < 16 → has (bit_or m (1 * 2 ^ v % 65536)) u ≡ (has m u || eqb u v)
-value_added m v u fits = ⊎_elim
-    (λ e. ap (λ k. has (bit_or m (1 * 2 ^ v % 65536)) k) e ∙ ap (λ (x : ℕ). eqb x 1) (bit_at_set_same w16 m v fits) ∙ sym (ap (λ b. has m u || b) (eq-eqb u v e) ∙ or-true (has m u)))
-    (λ ne. ap (λ (x : ℕ). eqb x 1) (bit_at_set_other w16 m v fits u ne) ∙ sym (ap (λ b. has m u || b) (ne_eqb u v ne) ∙ or-false (has m u)))
+value_added : (m v u : ℕ) → has (bit_or m (2 ^ v)) u ≡ (has m u || eqb u v)
+value_added m v u = ap (λ (x : ℕ). eqb x 1) (bit_at_or m (2 ^ v) u) ∙ ⊎_elim
+    (λ e.
+    let there : bit_at (2 ^ v) u ≡ 1 = ap (bit_at (2 ^ v)) e ∙ bit_at-pow_same v in
+    let one : max (bit_at m u) (bit_at (2 ^ v) u) ≡ 1 = omega (arith, bit_at-lt m u) in
+    ap (λ (x : ℕ). eqb x 1) one ∙ sym (ap (λ b. has m u || b) (eq-eqb u v e) ∙ or-true (has m u)))
+    (λ ne.
+    let same : max (bit_at m u) (bit_at (2 ^ v) u) ≡ bit_at m u = omega (arith, bit_at-pow_other v u ne) in
+    ap (λ (x : ℕ). eqb x 1) same ∙ sym (ap (λ b. has m u || b) (ne_eqb u v ne) ∙ or-false (has m u)))
     (cases_eq u v)
 
 -- with one word more on it, a slip holds that word and those it held
-pub word_added : (p : Posted) (kind value : ℕ) → 1 ≤ kind → kind ≤ 5 → value < 16 → length p.kinds ≡ 5
-    → OneMore p (record { group = p.group; change = p.change; sender = p.sender; kinds = set p.kinds (kind - 1) (bit_or (get_or p.kinds (kind - 1) 0) (1 * 2 ^ value % 65536)) }) kind value
-word_added p kind value low high fits five k v l h = ⊎_elim
+pub word_added : (p : Posted) (kind value : ℕ) → 1 ≤ kind → kind ≤ 5 → length p.kinds ≡ 5 → OneMore p (with_word p kind value) kind value
+word_added p kind value low high five k v l h = ⊎_elim
     (λ e.
     let index : k - 1 ≡ kind - 1 = omega arith in
     let m = get_or p.kinds (kind - 1) 0 in
-    let more = bit_or m (1 * 2 ^ value % 65536) in
-    ap (λ i. has (get_or (set p.kinds (kind - 1) more) i 0) v) index
-    ∙ ap (λ s. has s v) (get_or-set_same p.kinds (kind - 1) more 0 (omega arith))
-    ∙ value_added m value v fits
+    ap (λ i. has (get_or (set p.kinds (kind - 1) (bit_or m (2 ^ value))) i 0) v) index
+    ∙ ap (λ s. has s v) (get_or-set_same p.kinds (kind - 1) (bit_or m (2 ^ value)) 0 (omega arith))
+    ∙ value_added m value v
     ∙ ap₂ ◌||◌ (ap (λ i. has (get_or p.kinds i 0) v) (sym index)) (sym (ap (λ b. b && eqb v value) (eq-eqb k kind e))))
     (λ ne.
-    ap (λ s. has s v) (get_or-set_other p.kinds (kind - 1) (k - 1) (bit_or (get_or p.kinds (kind - 1) 0) (1 * 2 ^ value % 65536)) 0 (λ e. ne (omega arith)))
+    ap (λ s. has s v) (get_or-set_other p.kinds (kind - 1) (k - 1) (bit_or (get_or p.kinds (kind - 1) 0) (2 ^ value)) 0 (λ e. ne (omega arith)))
     ∙ sym (ap (λ b. holds p k v || (b && eqb v value)) (ne_eqb k kind ne) ∙ or-false (holds p k v)))
     (cases_eq k kind)
 
