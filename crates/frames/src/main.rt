@@ -11,7 +11,7 @@ use std::io::{BufRead, BufReader, BufWriter, Write};
 use tally::Tally;
 use wire::{FrameFault, Word, read_frame};
 
-// Prints what came of the piece with this number.
+// Prints what came of the piece with this number. Each line stands once, so a type with a `Display` would be longer.
 fn tell(out: &mut impl Write, number: u64, answer: Result<Word, FrameFault>) -> io::Result<()> {
     match answer {
         Ok(word) => {

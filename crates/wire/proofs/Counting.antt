@@ -5,7 +5,7 @@ use Rattle.std.specs.List.{flat_map, sum_by}
 use Rattle.std.proofs.lemmas.List.Sums.{sum_by_push}
 use Rattle.std.proofs.lemmas.Nat.{mod-pow-add, mod_below, pow_pos, ones-le}
 use Rattle.std.proofs.lemmas.List.{length-append, length_push, append-nil, nil_from_length, take_more, take_all}
-use Rattle.std.proofs.lemmas.Fmt.{decimal_digit}
+use Rattle.std.proofs.lemmas.Bool.{cond-true, cond-false, eq-eqb, ne_eqb}
 use Rattle.wire.specs.declared.posted.Posted.{Posted}
 use Rattle.wire.specs.declared.word.Word.{Word}
 use Rattle.wire.specs.Frames.{frame_of}
@@ -13,6 +13,7 @@ use Rattle.wire.specs.Limits.{comma, line_feed}
 use Rattle.wire.specs.Slips.{has, in_order, word_of, holds, if_held, words_of_kind, words_of, frames_of}
 use Rattle.wire.proofs.FrameText.{frame_length}
 use Rattle.wire.proofs.InOrder.{joined_weighs}
+use Rattle.wire.proofs.Widths.{width_one}
 
 ones_bit : (b : ℕ) → b < 2 → ones b ≡ b
 unfolding ones
@@ -48,6 +49,13 @@ module _ (p : Posted) where
   pub none_of_kind : (k : ℕ) → get_or p.kinds (k - 1) 0 % 512 ≡ 0 → words_of_kind p k ≡ []
   none_of_kind k none = nil_from_length (words_of_kind p k) (sym (kind_count k) ∙ ap ones none ∙ ones_bit 0 (lit< tt))
 
+  -- the frame of a value that a set has, and of one that it has not
+  pub held_frame : (k v : ℕ) → get_or p.kinds (k - 1) 0 / 2 ^ v % 2 ≡ 1 → flat_map frame_of (if_held p k v) ≡ frame_of (word_of p k v)
+  held_frame k v one = ap (flat_map frame_of) (cond-true (holds p k v) _ _ (eq-eqb (get_or p.kinds (k - 1) 0 / 2 ^ v % 2) 1 one)) ∙ append-nil (frame_of (word_of p k v))
+
+  pub none_held : (k v : ℕ) → (get_or p.kinds (k - 1) 0 / 2 ^ v % 2 ≡ 1 → ⊥) → flat_map frame_of (if_held p k v) ≡ []
+  none_held k v other = ap (flat_map frame_of) (cond-false (holds p k v) _ _ (ne_eqb (get_or p.kinds (k - 1) 0 / 2 ^ v % 2) 1 other))
+
   -- every frame of a slip has the same length
   same_length : (k v : ℕ) → k < 10 → v < 10 → length (frame_of (word_of p k v)) ≡ length (frame_of (word_of p 1 0))
   same_length k v kh vh =
@@ -59,10 +67,10 @@ module _ (p : Posted) where
         length_push (decimal v) line_feed,
         length_push (decimal 1) comma,
         length_push (decimal 0) line_feed,
-        ap length (decimal_digit k kh),
-        ap length (decimal_digit v vh),
-        ap length (decimal_digit 1 (lit< tt)),
-        ap length (decimal_digit 0 (lit< tt)),
+        width_one k kh,
+        width_one v vh,
+        width_one 1 (lit< tt),
+        width_one 0 (lit< tt),
       )
 
   length_held : (b : Bool) (w : Word) → length (flat_map frame_of (cond b (w ∷ []) [])) ≡ length (cond b (w ∷ []) []) * length (frame_of w)

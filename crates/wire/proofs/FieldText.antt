@@ -34,9 +34,6 @@ second_of_run (x ∷ xs) e =
     let none : run xs ≡ 0 = run_digits [] xs refl e in
     cond_both (is_digit x) (1 + run xs) 0 (λ k. k ≤ 1) (λ _. omega arith) (λ _. omega arith)
 
-first_of_take : (n : ℕ) (xs : List ℕ) → 0 < n → get_or (take n xs) 0 0 ≡ get_or xs 0 0
-first_of_take n xs h = get_or-take n xs 0 0 h
-
 -- a number in base ten does not begin with a zero that another digit follows
 plain_decimal : (n : ℕ) (rest : List ℕ) → n < 2 ^ 64 → is_digit (get_or rest 0 0) ≡ false → zero_leads (decimal n ++ rest) ≡ false
 plain_decimal n rest h stop = ⊎_elim
@@ -77,7 +74,7 @@ module _ (xs : List ℕ) (p n low high : ℕ) where
       let ds = take (run r) r in
       let long : length ds ≡ run r = length-take-le (run r) r (prefix_len-le-length is_digit r) in
       let first : get_or ds 0 0 ≡ 48 → length ds ≡ 1 = λ z.
-      let zero_first : eqb (get_or r 0 0) 48 ≡ true = eq-eqb (get_or r 0 0) 48 (sym (first_of_take (run r) r some) ∙ z) in
+      let zero_first : eqb (get_or r 0 0) 48 ≡ true = eq-eqb (get_or r 0 0) 48 (sym (get_or-take (run r) r 0 0 some) ∙ z) in
       ⊎_elim (λ f. let q = both_ways (eqb (get_or r 0 0) 48) f zero_first in absurd q) (λ f. omega (arith, second_of_run r f)) (and_cases (eqb (get_or r 0 0) 48) (is_digit (get_or r 1 0)) b.0) in
       let text : decimal n ≡ ds = ap decimal (sym said) ∙ decimal-digits_value own ds (digits_of_run r) (omega arith) first (omega arith) in (
         sym (take-append-drop (run r) r) ∙ ap₂ ◌++◌ (sym text) (drop-drop (run r) p xs ∙ ap (λ k. drop k xs) ends),

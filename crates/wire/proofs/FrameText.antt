@@ -79,20 +79,21 @@ within_parts low high n e =
 pub within_from : (low high n : ℕ) → low ≤ n → n ≤ high → is_within low high n ≡ true
 within_from low high n l h = and_from (leb low n) (leb n high) (le-leb low n l) (le-leb n high h)
 
+-- the five tests of a word
 module _ (w : Word) where
-  of_group : Bool
+  unfoldable pub of_group : Bool
   of_group = is_within 1 max_id w.group
 
-  of_change : Bool
+  unfoldable pub of_change : Bool
   of_change = is_within 1 max_id w.change
 
-  of_sender : Bool
+  unfoldable pub of_sender : Bool
   of_sender = is_within 0 max_sender w.sender
 
-  of_kind : Bool
+  unfoldable pub of_kind : Bool
   of_kind = is_within 1 max_kind w.kind
 
-  of_value : Bool
+  unfoldable pub of_value : Bool
   of_value = is_within 0 max_value w.value
 
   pub carried_ranges : carried w ≡ true → Ranges w
@@ -200,7 +201,7 @@ frame_is xs p x so =
     let k = ok_then (ended_field xs s.0.1 1 max_kind comma) _ x s.2 in
     let v = ok_then (ended_field xs k.0.1 0 max_value line_feed) _ x k.2 in
     let is : (read_word xs p g.0 c.0 s.0 k.0 v.0, v.0.1) ≡ x = ok_same (read_word xs p g.0 c.0 s.0 k.0 v.0, v.0.1) x v.2 in
-    subst (λ (y : Word × ℕ). Ranges y.0 × (drop p xs ≡ frame_of y.0 ++ drop y.1 xs) × (y.1 ≡ p + length (frame_of y.0))) is
+    subst (λ (y : Word × ℕ). Ranges y.0 × (drop p xs ≡ frame_of y.0 ++ drop y.1 xs) × (y.1 ≡ p + length (frame_of y.0))) {x = (read_word xs p g.0 c.0 s.0 k.0 v.0, v.0.1)} is
     (fields_are xs p g.0 c.0 s.0 k.0 v.0 g.1 c.1 s.1 k.1 v.1)
 
 -- that frame reads back as the word

@@ -1,8 +1,8 @@
 -- Lists made one part after the other, as a loop makes them, and what is put of them. Assumes nothing.
-use Rattle.std.proofs.Common.{◌≡◌, ℕ, zero, suc, ◌+◌, ◌-◌, ◌*◌, ◌<◌, ◌≤◌, List, [], ◌∷◌, ◌++◌, length, take, drop, sym, refl, ap, ◌∙◌, ap₂, ⊎_elim, le_of_eq, add-mul, zero-mul, add-one, arith}
+use Rattle.std.proofs.Common.{◌≡◌, ℕ, zero, suc, ◌+◌, ◌-◌, ◌*◌, ◌<◌, ◌≤◌, List, [], ◌++◌, length, take, drop, sym, ap, ◌∙◌, ap₂, ⊎_elim, le_of_eq, add-mul, zero-mul, add-one, arith}
 use Rattle.std.specs.List.{flat_map}
 use Rattle.std.proofs.lemmas.Grind.{flat_map-append}
-use Rattle.std.proofs.lemmas.List.{length-append}
+use Rattle.std.proofs.lemmas.List.{append-nil, length-append}
 use Rattle.std.proofs.lemmas.Bool.{cases_eq}
 use borrow.Rule.Slice.PartMut.{put_mid}
 use Rattle.wire.specs.Slips.{in_order}
@@ -51,3 +51,11 @@ module _ {A : Type 0} (g : A → List ℕ) (f : ℕ → List A) (old : List ℕ)
       put_behind len (flat_map g (in_order f i)) (flat_map g (f i)) old buf part so.0 (omega (arith, joined_le g f i n (omega arith))) so.1 is
           ∙ ap (λ l. put_front l old) (sym (joined_more g f i)),
     )
+
+    -- a part without bytes
+    pub putting_none : flat_map g (f i) ≡ [] → Putting (i + 1) len buf
+    putting_none none =
+        let same : flat_map g (in_order f i) ≡ flat_map g (in_order f (i + 1)) = sym (joined_more g f i ∙ ap (λ l. flat_map g (in_order f i) ++ l) none ∙ append-nil (flat_map g (in_order f i))) in (
+          so.0 ∙ ap length same,
+          so.1 ∙ ap (λ l. put_front l old) same,
+        )

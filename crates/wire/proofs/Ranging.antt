@@ -7,7 +7,7 @@ use Rattle.wire.specs.Fields.{is_within, and_then}
 use Rattle.wire.specs.Frames.{field_bytes, carried}
 use Rattle.wire.specs.Limits.{max_id, max_sender, max_kind, max_value, comma}
 use Rattle.wire.specs.Writes.{change_place, sender_place, kind_place, value_place, place_behind, first_failed, unless, range_fault}
-use Rattle.wire.proofs.FrameText.{Ranges, carried_ranges, ranges_carried}
+use Rattle.wire.proofs.FrameText.{Ranges, of_group, of_change, of_sender, of_kind, of_value, carried_ranges, ranges_carried}
 
 -- a test more before the others: no fault is found where all pass
 all_passed : (b c : Bool) (f : FrameFault) (x : Option FrameFault) → (x ≡ None → c ≡ true) → cond b x (Some f) ≡ None → (b && c) ≡ true
@@ -28,39 +28,24 @@ last_not_failed true f e = refl
 last_not_failed false f e = cc
 
 module _ (w : Word) where
-  of_group : Bool
-  of_group = is_within 1 max_id w.group
-
-  of_change : Bool
-  of_change = is_within 1 max_id w.change
-
-  of_sender : Bool
-  of_sender = is_within 0 max_sender w.sender
-
-  of_kind : Bool
-  of_kind = is_within 1 max_kind w.kind
-
-  of_value : Bool
-  of_value = is_within 0 max_value w.value
-
   -- a word without a fault can be carried
   pub none_ranges : range_fault w ≡ None → Ranges w
   unfolding range_fault carried of_group of_change of_sender of_kind of_value
   none_ranges e =
       carried_ranges w
-      (all_passed of_group (of_change && (of_sender && (of_kind && of_value))) _ _
-      (all_passed of_change (of_sender && (of_kind && of_value)) _ _
-      (all_passed of_sender (of_kind && of_value) _ _
-      (all_passed of_kind of_value _ _ (last_passed of_value _)))) e)
+      (all_passed (of_group w) (of_change w && (of_sender w && (of_kind w && of_value w))) _ _
+      (all_passed (of_change w) (of_sender w && (of_kind w && of_value w)) _ _
+      (all_passed (of_sender w) (of_kind w && of_value w) _ _
+      (all_passed (of_kind w) (of_value w) _ _ (last_passed (of_value w) _)))) e)
 
   -- a word that can be carried has no fault
   pub ranges_none : Ranges w → range_fault w ≡ None
   unfolding range_fault carried of_group of_change of_sender of_kind of_value
   ranges_none r =
-      none_failed of_group (of_change && (of_sender && (of_kind && of_value))) _ _
-      (none_failed of_change (of_sender && (of_kind && of_value)) _ _
-      (none_failed of_sender (of_kind && of_value) _ _
-      (none_failed of_kind of_value _ _ (last_not_failed of_value _)))) (ranges_carried w r)
+      none_failed (of_group w) (of_change w && (of_sender w && (of_kind w && of_value w))) _ _
+      (none_failed (of_change w) (of_sender w && (of_kind w && of_value w)) _ _
+      (none_failed (of_sender w) (of_kind w && of_value w) _ _
+      (none_failed (of_kind w) (of_value w) _ _ (last_not_failed (of_value w) _)))) (ranges_carried w r)
 
 module _ {X : Type 0} where
   unless_ok : (o : Option FrameFault) (r : Result X FrameFault) (x : X) → unless o r ≡ Ok x → o ≡ None

@@ -1,17 +1,18 @@
 -- What a slip holds after a word is posted and after it is written. Assumes nothing.
-use Rattle.std.proofs.Common.{◌≡◌, ℕ, ◌+◌, ◌-◌, ◌*◌, ◌/◌, ◌%◌, ◌^◌, ◌<◌, ◌≤◌, max, Bool, true, false, ◌&&◌, ◌||◌, eqb, [], length, get_or, set, IfOk, Some, None, Ok, Err, Option, Result, sym, refl, ap, ◌∙◌, ap₂, ⊎_elim, mul-le-mul_left, one-mul, arith, lit≤}
-use native.Mathlib.Nat.{div-eq_of_lt}
-use lib.Bits.{bit_or, or_step}
-use Rattle.std.proofs.lemmas.Nat.{or_shr, pow_below, shl-shr, pow-add}
+use Rattle.std.proofs.Common.{max, ◌≡◌, ℕ, ◌-◌, ◌*◌, ◌^◌, ◌≤◌, true, ◌&&◌, ◌||◌, eqb, [], length, get_or, set, IfOk, Some, None, Ok, Err, Option, Result, sym, refl, ap, ◌∙◌, ap₂, ⊎_elim, mul-le-mul_left, arith, lit≤}
+use lib.Bits.{bit_or}
+use Rattle.std.proofs.Math.Bool.{or-true, or-false}
+use Rattle.std.proofs.lemmas.Nat.Bits.{bit_at-lt, bit_at_or, bit_at-pow_same, bit_at-pow_other}
+use Rattle.std.specs.Int.{bit_at}
 use Rattle.std.proofs.lemmas.List.{get_or-set_same, get_or-set_other}
-use Rattle.std.proofs.lemmas.Bool.{eq-eqb, ne_eqb, cases_eq, cases_order}
+use Rattle.std.proofs.lemmas.Bool.{eq-eqb, ne_eqb, cases_eq}
 use Rattle.wire.specs.declared.fault.FrameFault.{FrameFault}
 use Rattle.wire.specs.declared.slip.Slip.{Slip}
 use Rattle.wire.specs.declared.posted.Posted.{Posted}
 use Rattle.wire.specs.declared.word.Word.{Word}
 use Rattle.wire.specs.Frames.{carried}
 use Rattle.wire.specs.Slips.{has, holds, word_of, words_of_kind, words_of, none_posted, with_word, OneMore, ReadsBack, frames_of, addressed, mapped}
-use Rattle.wire.specs.Writes.{range_fault, unless}
+use Rattle.wire.specs.Writes.{unless}
 use Rattle.wire.proofs.Outcomes.{ok_same, ok_not_err}
 use Rattle.wire.specs.Limits.{max_kind, max_value, frame_max}
 use Rattle.wire.proofs.Counting.{frames_weigh}
@@ -46,33 +47,17 @@ pub none_posted_none : (g c s : ℕ) → words_of (none_posted g c s) ≡ []
 unfolding words_of words_of_kind
 none_posted_none g c s = refl
 
-or_odd : (a b : ℕ) → bit_or a b % 2 ≡ max (a % 2) (b % 2)
-or_odd a b = let e = or_step a b in omega arith
-
-max_odd : (x y : ℕ) → x < 2 → y < 2 → eqb (max x y) 1 ≡ (eqb x 1 || eqb y 1)
-max_odd x y p q = grind arith
-
-has_or : (m b u : ℕ) → has (bit_or m b) u ≡ (has m u || has b u)
-has_or m b u =
-    ap (λ (x : ℕ). eqb (x % 2) 1) (or_shr m b u)
-    ∙ ap (λ (x : ℕ). eqb x 1) (or_odd (m / 2 ^ u) (b / 2 ^ u))
-    ∙ max_odd (m / 2 ^ u % 2) (b / 2 ^ u % 2) (omega arith) (omega arith)
-
--- the value v adds 2 to the power v, and so is the one value there
-has_bit : (v u : ℕ) → has (2 ^ v) u ≡ eqb u v
-has_bit v u = ⊎_elim
-    (λ e. ap (λ k. has (2 ^ v) k) e ∙ ap (λ (x : ℕ). eqb (x % 2) 1) (ap (λ (x : ℕ). x / 2 ^ v) (sym (one-mul (2 ^ v))) ∙ shl-shr 1 v) ∙ sym (eq-eqb u v e))
-    (⊎_elim
-    (λ lt.
-    let parts : v ≡ 1 + (v - u - 1) + u = omega arith in
-    let quotient : 2 ^ v / 2 ^ u ≡ 2 ^ (1 + (v - u - 1)) = ap (λ k. 2 ^ k / 2 ^ u) parts ∙ ap (λ (x : ℕ). x / 2 ^ u) (pow-add 2 (1 + (v - u - 1)) u) ∙ shl-shr (2 ^ (1 + (v - u - 1))) u in
-    let even : 2 ^ (1 + (v - u - 1)) ≡ 2 * 2 ^ (v - u - 1) = pow-add 2 1 (v - u - 1) in
-    let odd : (2 ^ v / 2 ^ u % 2 ≡ 1) → ⊥ = λ o. omega arith in
-    ne_eqb (2 ^ v / 2 ^ u % 2) 1 odd ∙ sym (ne_eqb u v (λ e. omega arith)))
-    (λ gt.
-    let none : 2 ^ v / 2 ^ u ≡ 0 = div-eq_of_lt (pow_below v u gt) in
-    ap (λ (x : ℕ). eqb (x % 2) 1) none ∙ sym (ne_eqb u v (λ e. omega arith))))
-    (cases_order u v)
+-- a set with one value more
+value_added : (m v u : ℕ) → has (bit_or m (2 ^ v)) u ≡ (has m u || eqb u v)
+value_added m v u = ap (λ (x : ℕ). eqb x 1) (bit_at_or m (2 ^ v) u) ∙ ⊎_elim
+    (λ e.
+    let there : bit_at (2 ^ v) u ≡ 1 = ap (bit_at (2 ^ v)) e ∙ bit_at-pow_same v in
+    let one : max (bit_at m u) (bit_at (2 ^ v) u) ≡ 1 = omega (arith, bit_at-lt m u) in
+    ap (λ (x : ℕ). eqb x 1) one ∙ sym (ap (λ b. has m u || b) (eq-eqb u v e) ∙ or-true (has m u)))
+    (λ ne.
+    let same : max (bit_at m u) (bit_at (2 ^ v) u) ≡ bit_at m u = omega (arith, bit_at-pow_other v u ne) in
+    ap (λ (x : ℕ). eqb x 1) same ∙ sym (ap (λ b. has m u || b) (ne_eqb u v ne) ∙ or-false (has m u)))
+    (cases_eq u v)
 
 -- with one word more on it, a slip holds that word and those it held
 pub word_added : (p : Posted) (kind value : ℕ) → 1 ≤ kind → kind ≤ 5 → length p.kinds ≡ 5 → OneMore p (with_word p kind value) kind value
@@ -82,16 +67,12 @@ word_added p kind value low high five k v l h = ⊎_elim
     let m = get_or p.kinds (kind - 1) 0 in
     ap (λ i. has (get_or (set p.kinds (kind - 1) (bit_or m (2 ^ value))) i 0) v) index
     ∙ ap (λ s. has s v) (get_or-set_same p.kinds (kind - 1) (bit_or m (2 ^ value)) 0 (omega arith))
-    ∙ has_or m (2 ^ value) v
-    ∙ ap₂ ◌||◌ (ap (λ i. has (get_or p.kinds i 0) v) (sym index)) (has_bit value v ∙ sym (ap (λ b. b && eqb v value) (eq-eqb k kind e))))
+    ∙ value_added m value v
+    ∙ ap₂ ◌||◌ (ap (λ i. has (get_or p.kinds i 0) v) (sym index)) (sym (ap (λ b. b && eqb v value) (eq-eqb k kind e))))
     (λ ne.
     ap (λ s. has s v) (get_or-set_other p.kinds (kind - 1) (k - 1) (bit_or (get_or p.kinds (kind - 1) 0) (2 ^ value)) 0 (λ e. ne (omega arith)))
-    ∙ sym (ap (λ b. holds p k v || (b && eqb v value)) (ne_eqb k kind ne) ∙ or_none (holds p k v)))
+    ∙ sym (ap (λ b. holds p k v || (b && eqb v value)) (ne_eqb k kind ne) ∙ or-false (holds p k v)))
     (cases_eq k kind)
-  where
-    or_none : (b : Bool) → (b || false) ≡ b
-    or_none true = refl
-    or_none false = refl
 
 -- a slip that is made with no words holds none
 pub made_empty : (r : Result Slip FrameFault) (o : Option FrameFault) (p : Posted) → mapped (λ s. s.posted) r ≡ unless o (Ok p) → words_of p ≡ [] → IfOk r (λ s. words_of s.posted ≡ [])

@@ -28,6 +28,7 @@ impl<'a> Reader<'a> {
         ensures place { self.new.place ≡ place_after (λ x. x.1) result self.old.place }
         ensures same { self.new.bytes.now ≡ self.old.bytes.now }
     {
+        // five calls and no loop: each field has a range, an end and a type of its own
         let mut ahead = *self;
         let (group, _) = ahead.ended_field(1, MAX_ID, b',')?;
         let (change, _) = ahead.ended_field(1, MAX_ID, b',')?;

@@ -1,8 +1,8 @@
 // The frames of the words that a board has posted, put one after the other.
-ghost use Rattle.std.specs.Prelude.{◌≡◌, ℕ, ◌<◌, ◌≤◌, length};
+ghost use Rattle.std.specs.Prelude.{◌≡◌, ℕ, ◌≤◌, length};
 ghost use Rattle.std.specs.List.{flat_map};
 ghost use Rattle.wire.specs.Frames.{frame_of};
-ghost use Rattle.wire.specs.Slips.{words_of, if_held, words_of_kind, frames_of};
+ghost use Rattle.wire.specs.Slips.{words_of, words_of_kind, frames_of};
 ghost use Rattle.wire.specs.Writes.{put_front};
 
 use crate::limits::MAX_VALUE;
@@ -16,35 +16,22 @@ const VALUES: u8 = MAX_VALUE as u8 + 1;
 const VALUE_SETS: u16 = 1 << VALUES;
 
 impl Posted {
-    // Puts the frame of the word of this kind and value at the front, where it is posted, and answers how many bytes it has.
-    fn put_held(&self, kind: u8, value: u8, buf: &mut [u8]) -> usize
-        requires kind { (kind < 6) × (0 < kind) }
-        requires value { value < 9 }
-        requires room { length (flat_map frame_of (if_held self.now kind value)) ≤ length buf.old }
-        ensures value { result ≡ length (flat_map frame_of (if_held self.now kind value)) }
-        ensures buffer { buf.new ≡ put_front (flat_map frame_of (if_held self.now kind value)) buf.old }
-    {
-        let index = kind - 1;
-        if (self.kinds[index as usize] >> value) % 2 == 0 {
-            return 0;
-        }
-        put_frame(self.word(kind, value), buf)
-    }
-
     // Puts the frames of one kind at the front, by value, and answers how many bytes they have.
     fn put_kind(&self, kind: u8, buf: &mut [u8]) -> usize
-        requires kind { (kind < 6) × (0 < kind) }
+        requires kind { (1 ≤ kind) × (kind ≤ 5) }
         requires room { length (flat_map frame_of (words_of_kind self.now kind)) ≤ length buf.old }
         ensures value { result ≡ length (flat_map frame_of (words_of_kind self.now kind)) }
         ensures buffer { buf.new ≡ put_front (flat_map frame_of (words_of_kind self.now kind)) buf.old }
     {
-        let index = kind - 1;
-        if self.kinds[index as usize] % VALUE_SETS == 0 {
+        let values = self.kinds[(kind - 1) as usize];
+        if values % VALUE_SETS == 0 {
             return 0;
         }
         let mut len = 0;
         for value in 0..VALUES {
-            len += self.put_held(kind, value, &mut buf[len..]);
+            if (values >> value) % 2 == 1 {
+                len += put_frame(self.word(kind, value), &mut buf[len..]);
+            }
         }
         len
     }
@@ -56,8 +43,8 @@ impl Posted {
         ensures buffer { buf.new ≡ put_front (frames_of self.now) buf.old }
     {
         let mut len = 0;
-        for index in 0..KINDS as u8 {
-            len += self.put_kind(index + 1, &mut buf[len..]);
+        for kind in 1..=KINDS as u8 {
+            len += self.put_kind(kind, &mut buf[len..]);
         }
         len
     }

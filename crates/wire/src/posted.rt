@@ -6,12 +6,13 @@ use crate::word::Word;
 // How many kinds of words there are, counted from 1.
 pub const KINDS: usize = 5;
 
+// Group, change and sender are no struct of their own, as in `Word`: a frame has its fields side by side, each with a range of its own.
 #[derive(Clone, Copy, Debug)]
 pub struct Posted {
     pub group: u16,
     pub change: u16,
     pub sender: u8,
-    // for each kind, from 1 on, the set of its values: value v adds 2 to the power v
+    // for each kind, from 1 on, the set of its values: value v adds 2 to the power v (a number each: no heap)
     pub kinds: [u16; KINDS],
 }
 

@@ -4,5 +4,5 @@ use Rattle.wire.specs.Slips.{words_of_kind}
 use Rattle.wire.proofs.InOrder.{Putting}
 use Rattle.wire.proofs.posted.Posted.put_frames.Given as goal
 
-abbrev pub invariant-loop-index : goal.invariant-loop-index
-invariant-loop-index l = Putting frame_of (λ j. words_of_kind l.self (suc j)) l.initial.buf l.index l.len l.buf
+abbrev pub invariant-loop-kind : goal.invariant-loop-kind
+invariant-loop-kind l = Putting frame_of (λ j. words_of_kind l.self (suc j)) l.initial.buf (l.kind - 1) l.len l.buf

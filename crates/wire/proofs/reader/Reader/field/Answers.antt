@@ -1,6 +1,6 @@
 use Rattle.std.proofs.Common.{◌≡◌, true, false, sym, ◌∙◌, arith}
 use Rattle.wire.specs.Fields.{is_within}
-use Rattle.wire.proofs.FieldRead.{field_none, field_zero, field_beyond, field_out, field_good, run_inside}
+use Rattle.wire.proofs.FieldRead.{field_none, field_zero, field_beyond, field_out, field_good}
 use Rattle.wire.proofs.reader.Reader.field.Goals as goal
 use Rattle.wire.proofs.reader.Reader.field.Goals.{in_default-via-in-Some+else-contains, in_default-via-in_default}
 

@@ -1,4 +1,4 @@
-use Rattle.std.proofs.Common.{◌≡◌, ◌*◌, ◌≤◌, length, get_or, ap, ◌∙◌, arith}
+use Rattle.std.proofs.Common.{length, get_or, ap, ◌∙◌, arith}
 use Rattle.wire.specs.Slips.{frames_of, words_of}
 use Rattle.wire.proofs.Counting.{words_le}
 use Rattle.wire.proofs.PutFront.{rest_filled, zero_behind}
