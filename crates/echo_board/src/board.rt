@@ -88,7 +88,7 @@ impl EchoRecord {
             return None;
         }
         self.heard.note(vote);
-        let found = self.find(voting);
+        let found = self.find(voting, vote.kind);
         Some(self.remember(found))
     }
 }
