@@ -39,6 +39,7 @@ pub fn record_size() -> usize
 
 impl EchoRecord {
     // Nothing is counted, and the starting character is echoed.
+    #[tactic(auto, using(crate::proofs::Starts::start_echo, crate::proofs::Starts::start_is))]
     pub fn start(start: u8) -> EchoRecord
         requires { start ≤ max_characters }
         ensures { (S : Setting) → result ≡ record_of S start [] }

@@ -26,6 +26,7 @@ pub struct PlainRecord {
 
 impl PlainRecord {
     // Nothing is counted.
+    #[tactic(auto, using(crate::proofs::Tallies::tally_empty, crate::proofs::Records::start_is))]
     pub fn start() -> PlainRecord
         ensures { (S : Setting) → result ≡ record_of S [] }
     {
@@ -37,6 +38,7 @@ impl PlainRecord {
     }
 
     // What is decided, if anything is.
+    #[tactic(auto, using(crate::proofs::Memory::undecided, crate::proofs::Records::no_branch, crate::proofs::Records::has_branch, crate::proofs::Records::has_decision))]
     pub fn decided(&self) -> Option<Decision>
         ensures { (S : Setting) (h : List Vote) → self.now ≡ record_of S h → result ≡ decided_by S h }
     {
@@ -48,6 +50,7 @@ impl PlainRecord {
     }
 
     // The branch, if it is fixed.
+    #[tactic(auto, using(crate::proofs::Records::no_branch, crate::proofs::Records::has_branch, crate::proofs::Records::has_decision))]
     fn branch(&self) -> Option<u8>
         ensures { (S : Setting) (h : List Vote) → self.now ≡ record_of S h → result ≡ branch_by S h }
     {
@@ -75,6 +78,7 @@ impl PlainRecord {
     }
 
     // Whether a word of this kind and sender has been counted.
+    #[tactic(auto, using(crate::proofs::Records::first_at, crate::proofs::Records::second_at, crate::proofs::Records::repeats_is))]
     fn repeats(&self, vote: Vote) -> bool
         requires { (vote.sender < max_crew) × ((1 ≤ vote.kind) × (vote.kind ≤ 2)) }
         ensures { (S : Setting) (h : List Vote) → vote.sender < S.rule.crew → self.now ≡ record_of S h → result ≡ repeats_in h vote }
