@@ -78,7 +78,6 @@ impl PlainRecord {
     }
 
     // Whether a word of this kind and sender has been counted.
-    #[tactic(auto, using(crate::proofs::Records::first_at, crate::proofs::Records::second_at, crate::proofs::Records::repeats_is))]
     fn repeats(&self, vote: Vote) -> bool
         requires { (vote.sender < max_crew) × ((1 ≤ vote.kind) × (vote.kind ≤ 2)) }
         ensures { (S : Setting) (h : List Vote) → vote.sender < S.rule.crew → self.now ≡ record_of S h → result ≡ repeats_in h vote }
