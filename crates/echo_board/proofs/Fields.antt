@@ -9,7 +9,7 @@ use Rattle.vote.specs.declared.Vote.{Vote}
 use Rattle.vote.specs.History.{Seen, seen, ever}
 use Rattle.vote.specs.Search.{is}
 use Rattle.vote.specs.Setting.{Setting}
-use Rattle.agreement.specs.Echo.{echoes, found, said, echoed, decided, posts}
+use Rattle.agreement.specs.Echo.{echoes, found, said, echoed, posts}
 use Rattle.vote.proofs.Options.{same_is}
 use Rattle.vote.proofs.Memories.{memo_none}
 use Rattle.std.specs.Option.{option_eq}

@@ -2,11 +2,11 @@
 use Rattle.std.proofs.Common.{◌≡◌, ℕ, suc, Bool, true, false, not, ◌&&◌, ◌||◌, eqb, leb, List, [], ◌∷◌, Option, sym, refl, ap, ◌∙◌, ap₂, arith}
 use mathlib.Core.Path.{fun_ext}
 use mathlib.Core.Bool.{or-false}
-use Rattle.std.proofs.lemmas.Bool.{false≢true, or_parts, or_right, ne_eqb, not_from_true}
+use Rattle.std.proofs.lemmas.Bool.{or_right, ne_eqb, not_from_true}
 use Rattle.quorum.specs.Rules.{strong, strong_by}
 use Rattle.quorum.specs.Truth.{clash, false_unless}
 use Rattle.vote.specs.declared.Vote.{Vote}
-use Rattle.vote.specs.History.{Seen, seen, counted, first, ever}
+use Rattle.vote.specs.History.{seen, counted, first, ever}
 use Rattle.vote.specs.Search.{all_below}
 use Rattle.vote.specs.Setting.{Setting}
 use Rattle.agreement.specs.Echo.{other, echoes, parted, echoed}

@@ -1,7 +1,7 @@
 -- One vote makes a board post at most six words: the echo of the vote's value, that of 0, and one word of each other kind. Assumes nothing but that nobody may fail.
 use Rattle.std.proofs.Common.{◌≡◌, ℕ, zero, suc, ◌+◌, ◌*◌, ◌/◌, ◌%◌, ◌≤◌, Bool, true, false, cond, not, ◌&&◌, ◌||◌, eqb, leb, List, [], ◌∷◌, Some, sym, refl, ap, ◌∙◌, ⊎_elim, arith}
 use lib.Count.{ones, ones_step}
-use Rattle.std.proofs.lemmas.Bool.{and_parts, and_right, or_cases, or_parts, not-true, not_from_true, cases_Bool, cases_eq, eqb-true, eqb-false, ne_eqb}
+use Rattle.std.proofs.lemmas.Bool.{and_parts, and_right, or_cases, or_parts, not-true, cases_Bool, cases_eq, eqb-true, eqb-false, ne_eqb}
 use Rattle.quorum.specs.Sets.{set_of}
 use Rattle.quorum.specs.Rules.{strong, strong_by}
 use Rattle.quorum.specs.Truth.{clash, false_unless}

@@ -52,7 +52,9 @@ pub(crate) fn strong_values<R: FailureRule>(voting: &Voting<R>, senders: &[u16; 
 pub(crate) fn parted_among<R: FailureRule>(voting: &Voting<R>, openings: &Tally) -> bool
     ensures { result ≡ all_below (suc voting.now.characters) (λ u. is_strong (R.meaning voting.now.rule.now) (others_of openings.now u)) }
 {
-    voting.lowest(|u| !strong(voting.rule, openings.others(u))).is_none()
+    voting
+        .lowest(|u| !strong(voting.rule, openings.others(u)))
+        .is_none()
 }
 
 // The lowest character with a sender in `fifth` and strong senders in `fourth`.

@@ -28,7 +28,10 @@ impl Heard {
         if !self.late(voting, 5) {
             return None;
         }
-        decision(1, lowest_backed(voting, &self.first[3].values, &self.first[4].values))
+        decision(
+            1,
+            lowest_backed(voting, &self.first[3].values, &self.first[4].values),
+        )
     }
 
     pub fn verdict<R: FailureRule>(&self, voting: &Voting<R>) -> Option<Decision>

@@ -1,5 +1,5 @@
 -- How the branch and the decision go on as one vote more is counted. Assumes nothing.
-use Rattle.std.proofs.Common.{◌≡◌, ℕ, zero, suc, ◌≤◌, Bool, true, false, cond, not, ◌&&◌, eqb, List, [], ◌∷◌, Some, None, Option, unwrap_or, sym, refl, ap, ◌∙◌, subst, ap₂, ⊎_elim, zero-le, arith}
+use Rattle.std.proofs.Common.{◌≡◌, ℕ, zero, suc, ◌≤◌, Bool, true, false, cond, not, ◌&&◌, eqb, List, [], ◌∷◌, Some, None, Option, unwrap_or, sym, refl, ap, ◌∙◌, subst, ap₂, ⊎_elim}
 use Rattle.std.proofs.lemmas.Bool.{false≢true, and_from, and_parts}
 use Rattle.quorum.specs.Rules.{Rule, Lawful, ample, ample_by}
 use Rattle.quorum.specs.Sets.{member}
@@ -11,7 +11,7 @@ use Rattle.vote.specs.declared.Depth.{Depth}
 use Rattle.vote.specs.declared.Depth.TheVariants.{One, Two}
 use Rattle.vote.specs.declared.Vote.{Vote}
 use Rattle.vote.specs.History.{Seen, seen, first, speaks, memo}
-use Rattle.vote.specs.Search.{or_else, when, given, seek}
+use Rattle.vote.specs.Search.{or_else, when, given}
 use Rattle.vote.specs.Setting.{Setting, decision_on, lowest}
 use Rattle.agreement.specs.Plain.{all_say, some_says, branch_found, branch, compared, decision_found, decided}
 use Rattle.plain_board.specs.Read.{common_of, verdict_on}

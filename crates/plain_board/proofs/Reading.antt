@@ -1,7 +1,7 @@
 -- What the sets of a tally say of the votes that it shows. Assumes nothing.
 use Rattle.std.proofs.Common.{◌≡◌, ℕ, zero, suc, ◌≤◌, Bool, true, cond, not, ◌&&◌, eqb, get_or, Some, None, Option, unwrap_or, sym, refl, ap, ◌∙◌, ap₂, zero-le, arith}
 use Rattle.std.proofs.lemmas.Bool.{false≢true}
-use Rattle.quorum.specs.Rules.{Rule, ample, ample_by}
+use Rattle.quorum.specs.Rules.{ample, ample_by}
 use Rattle.quorum.specs.Sets.{set_of}
 use Rattle.vote.specs.declared.Decision.{Decision}
 use Rattle.vote.specs.declared.Depth.{Depth}

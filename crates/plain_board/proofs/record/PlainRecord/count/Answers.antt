@@ -1,5 +1,5 @@
 -- From each stage, by the word's kind. Assumes nothing.
-use Rattle.std.proofs.Common.{◌≤◌, true, false, sym, ◌∙◌, arith}
+use Rattle.std.proofs.Common.{◌≤◌, sym, ◌∙◌, arith}
 use Rattle.plain_board.specs.Shown.{setting}
 use Rattle.plain_board.specs.Step.{Counts}
 use Rattle.plain_board.specs.Marks.{PlainMarks}
