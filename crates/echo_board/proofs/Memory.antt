@@ -1,6 +1,7 @@
 -- A record that shows a history shows it with one vote more, once what the tests find is remembered. Assumes nothing.
 use Rattle.std.proofs.Common.{◌≡◌, ℕ, ◌-◌, Bool, true, false, cond, not, ◌&&◌, ◌||◌, eqb, leb, List, ◌∷◌, Some, None, Option, MatchOption, sym, refl, ap, ◌∙◌, subst, ⊎_elim}
 use mathlib.Core.Bool.{and-false}
+use Rattle.std.proofs.Math.Bool.{and-not_self}
 use lib.Bits.{bit_or, bit_and}
 use Rattle.std.specs.Int.Bits.{or_zero_r}
 use Rattle.std.proofs.lemmas.Bool.{eq-eqb, ne_eqb, cases_eq}
@@ -108,12 +109,8 @@ module _ (S : Setting) (nobody : S.rule.fails 0 ≡ true) (s : ℕ) (h : List Vo
   due_new : due - bit_and due (values (echoed S s h)) ≡ values (λ v. echoed S s (w ∷ h) v && not (echoed S s h v))
   due_new =
       ⊎_elim (λ (q : w.kind ≡ 1). rw (eq-eqb w.kind 1 q) echoes_new)
-      (λ (q : w.kind ≡ 1 → ⊥). rw (ne_eqb w.kind 1 q) (sym (set_of_ext 9 _ (λ v. false) (λ v l. rw (echoed_same S nobody h w q s v) (no_more (echoed S s h v))) ∙ set_of_none 9)))
+      (λ (q : w.kind ≡ 1 → ⊥). rw (ne_eqb w.kind 1 q) (sym (set_of_ext 9 _ (λ v. false) (λ v l. rw (echoed_same S nobody h w q s v) (and-not_self (echoed S s h v))) ∙ set_of_none 9)))
       (cases_eq w.kind 1)
-    where
-      no_more : (b : Bool) → (b && not b) ≡ false
-      no_more true = refl
-      no_more false = refl
 
   -- ---- the step
   remembering_is : remembering (hearing (record_of S s h) (heard_of S.rule.crew (seen (w ∷ h)))) (with_echoes due (findings_of S (seen (w ∷ h)))) ≡ record_of S s (w ∷ h)

@@ -1,7 +1,7 @@
 -- A vote of another kind than 1 makes no echo due that was not before. Assumes nothing but that nobody may fail.
 use Rattle.std.proofs.Common.{◌≡◌, ℕ, suc, Bool, true, false, not, ◌&&◌, ◌||◌, eqb, leb, List, [], ◌∷◌, Option, sym, refl, ap, ◌∙◌, ap₂, arith}
 use mathlib.Core.Path.{fun_ext}
-use mathlib.Core.Bool.{or-false}
+use mathlib.Core.Bool.{and-false, or-false}
 use Rattle.std.proofs.lemmas.Bool.{or_right, ne_eqb, not_from_true}
 use Rattle.quorum.specs.Rules.{strong, strong_by}
 use Rattle.quorum.specs.Truth.{clash, false_unless}
@@ -11,6 +11,7 @@ use Rattle.vote.specs.Search.{all_below}
 use Rattle.vote.specs.Setting.{Setting}
 use Rattle.agreement.specs.Echo.{other, echoes, parted, echoed}
 use Rattle.vote.proofs.Options.{else_none}
+use Rattle.echo_board.proofs.Once.{or_same}
 use Rattle.vote.proofs.Seeking.{set_of_none, all_found}
 
 module _ (S : Setting) (nobody : S.rule.fails 0 ≡ true) where
@@ -29,11 +30,7 @@ module _ (S : Setting) (nobody : S.rule.fails 0 ≡ true) where
 
   none_due : (v : ℕ) → echoes S v (seen []) ≡ false
   unfolding echoes
-  none_due v = rw (at_first v, never_parted) (neither (eqb v 0))
-    where
-      neither : (b : Bool) → (false || (b && false)) ≡ false
-      neither true = refl
-      neither false = refl
+  none_due v = rw (at_first v, never_parted) (and-false (eqb v 0))
 
   -- an echo that is due was due as it was last looked at
   due_before : (h : List Vote) (v : ℕ) → echoes S v (seen h) ≡ true → ever (λ g. echoes S v (seen g)) h ≡ true
@@ -59,9 +56,4 @@ module _ (S : Setting) (nobody : S.rule.fails 0 ≡ true) where
     pub echoed_same : (start v : ℕ) → echoed S start (w ∷ h) v ≡ echoed S start h v
     unfolding echoed ever
     echoed_same start v =
-        ap (λ (b : Bool). eqb v start || (leb v S.characters && b)) (absorbs (ever (λ g. echoes S v (seen g)) h) _ (λ e. due_before h v (sym (due_same v) ∙ e)))
-      where
-        absorbs : (a b : Bool) → (b ≡ true → a ≡ true) → (a || b) ≡ a
-        absorbs true b f = refl
-        absorbs false true f = sym (f refl)
-        absorbs false false f = refl
+        ap (λ (b : Bool). eqb v start || (leb v S.characters && b)) (or_same (ever (λ g. echoes S v (seen g)) h) _ (λ e. due_before h v (sym (due_same v) ∙ e)))

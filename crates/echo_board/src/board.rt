@@ -15,6 +15,7 @@ use quorum::FailureRule;
 use vote::{Decision, News, Vote, Voting};
 
 // What a board has counted, the values that it has echoed, as a set, its words of the kinds 2 to 5, and its decision.
+// The words stay four fields: each is the answer of another test, and an array by kind would put numbers in the place of their names.
 #[derive(Clone, Copy)]
 pub struct EchoRecord {
     pub(crate) heard: Heard,

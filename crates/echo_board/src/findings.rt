@@ -20,7 +20,7 @@ pub(crate) struct Findings {
     pub(crate) decision: Option<Decision>,
 }
 
-// What is held, or else what is found. `or_else` tells a caller nothing of a test under a rule: it takes the closure as an FnOnce.
+// What is held, or else what is found. Tried with `or_else`: it takes an FnOnce, and of a test under a rule its contract then told nothing.
 fn held_or<T, F: Fn() -> Option<T>>(held: Option<T>, find: F) -> Option<T>
     requires { F.pre find }
     ensures { MatchOption held (F.post find result) (λ x. result ≡ Some x) }
