@@ -9,7 +9,7 @@ use Rattle.vote.specs.declared.Vote.{Vote}
 use Rattle.vote.specs.History.{Seen, seen, ever}
 use Rattle.vote.specs.Search.{is}
 use Rattle.vote.specs.Setting.{Setting}
-use Rattle.agreement.specs.Echo.{echoes, found, said, echoed, decided, posts}
+use Rattle.agreement.specs.Echo.{echoes, found, said, echoed, posts}
 use Rattle.vote.proofs.Options.{same_is}
 use Rattle.vote.proofs.Memories.{memo_none}
 use Rattle.std.specs.Option.{option_eq}
@@ -34,26 +34,6 @@ said_none S h c not2 not3 not4 not5 = sym (memo_none (λ g. found S S.depth c (s
 
 -- ---- the fields of a record that shows h
 module _ (S : Setting) (s : ℕ) (h : List Vote) (o : EchoRecord) (e : o ≡ record_of S s h) where
-  pub second_is : o.second ≡ said S h 2
-  unfolding record_of
-  second_is = ap (λ (z : EchoRecord). z.second) e
-
-  pub third_is : o.third ≡ said S h 3
-  unfolding record_of
-  third_is = ap (λ (z : EchoRecord). z.third) e
-
-  pub fourth_is : o.fourth ≡ said S h 4
-  unfolding record_of
-  fourth_is = ap (λ (z : EchoRecord). z.fourth) e
-
-  pub fifth_is : o.fifth ≡ said S h 5
-  unfolding record_of
-  fifth_is = ap (λ (z : EchoRecord). z.fifth) e
-
-  pub decision_is : o.decision ≡ decided S h
-  unfolding record_of
-  decision_is = ap (λ (z : EchoRecord). z.decision) e
-
   -- no value beyond 8 is echoed
   pub echo_posted : (c v : ℕ) → s ≤ 8 → S.characters ≤ 8 → c ≡ 1 → member v o.echoed ≡ posts S s h c v
   unfolding record_of posts echoed

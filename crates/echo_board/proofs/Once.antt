@@ -1,6 +1,6 @@
 -- A vote that repeats another changes nothing that a board posts or decides. Assumes nothing.
 use Rattle.std.proofs.Common.{◌≡◌, ℕ, Bool, true, false, cond, ◌&&◌, ◌||◌, eqb, leb, ◌⊎◌, List, [], ◌∷◌, Some, None, Option, sym, refl, ap, ◌∙◌, subst, ap₂, subst₂, inl, inr, ⊎_elim}
-use Rattle.std.proofs.lemmas.Bool.{false≢true, and_parts, eqb-true, eq-eqb}
+use Rattle.std.proofs.lemmas.Bool.{false≢true, and_parts, or_right, eqb-true, eq-eqb}
 use Rattle.quorum.specs.Truth.{clash}
 use Rattle.vote.specs.declared.Vote.{Vote}
 use Rattle.vote.specs.History.{Seen, seen, of_kind, counted, first, memo, ever}
@@ -11,7 +11,7 @@ use Rattle.vote.proofs.Options.{else_twice}
 use Rattle.vote.proofs.Counting.{vote_is, counted_first}
 use Rattle.heard.specs.Repeats.{repeats}
 
-or_same : (a b : Bool) → (b ≡ true → a ≡ true) → (a || b) ≡ a
+pub or_same : (a b : Bool) → (b ≡ true → a ≡ true) → (a || b) ≡ a
 or_same true b f = refl
 or_same false true f = sym (f refl)
 or_same false false f = refl
@@ -26,9 +26,7 @@ cond_cases true x y p = inl (refl, p)
 cond_cases false x y p = inr (refl, p)
 
 or_twice : (m x : Bool) → ((m || x) || x) ≡ (m || x)
-or_twice true x = refl
-or_twice false true = refl
-or_twice false false = refl
+or_twice m x = or_same (m || x) x (or_right m x)
 
 -- ---- what the tests look at is the same
 module _ (h : List Vote) (w : Vote) (rep : repeats h w ≡ true) where

@@ -1,7 +1,7 @@
 -- One vote makes a board post at most six words: the echo of the vote's value, that of 0, and one word of each other kind. Assumes nothing but that nobody may fail.
 use Rattle.std.proofs.Common.{◌≡◌, ℕ, zero, suc, ◌+◌, ◌*◌, ◌/◌, ◌%◌, ◌≤◌, Bool, true, false, cond, not, ◌&&◌, ◌||◌, eqb, leb, List, [], ◌∷◌, Some, sym, refl, ap, ◌∙◌, ⊎_elim, arith}
 use lib.Count.{ones, ones_step}
-use Rattle.std.proofs.lemmas.Bool.{and_parts, and_right, or_cases, or_parts, not-true, not_from_true, cases_Bool, cases_eq, eqb-true, eqb-false, ne_eqb}
+use Rattle.std.proofs.lemmas.Bool.{and_parts, and_right, or_cases, or_parts, not-true, cases_Bool, cases_eq, eqb-true, eqb-false, ne_eqb}
 use Rattle.quorum.specs.Sets.{set_of}
 use Rattle.quorum.specs.Rules.{strong, strong_by}
 use Rattle.quorum.specs.Truth.{clash, false_unless}
@@ -14,6 +14,7 @@ use Rattle.vote.specs.News.{values, newly, news_of}
 use Rattle.vote.proofs.Options.{holds_one}
 use Rattle.vote.proofs.Seeking.{set_of_none}
 use Rattle.echo_board.specs.Laws.{words_in}
+use Rattle.echo_board.proofs.Quiet.{at_first}
 use Rattle.echo_board.proofs.Stays.{word_said}
 
 -- ---- how many a set has
@@ -78,14 +79,9 @@ or_without true c p = refl
 or_without false c p = p
 
 module _ (S : Setting) (nobody : S.rule.fails 0 ≡ true) (start : ℕ) (w : Vote) where
-  -- no set of senders is strong before anything is counted
-  at_first : (v : ℕ) → strong_by S.rule (counted [] 1 v) ≡ false
-  unfolding counted strong
-  at_first v = ap (λ (s : ℕ). not (S.rule.fails s)) (set_of_none S.rule.crew) ∙ not_from_true _ nobody
-
   weak_before : (h : List Vote) (v : ℕ) → ever (λ g. echoes S v (seen g)) h ≡ false → strong_by S.rule (counted h 1 v) ≡ false
   unfolding ever echoes
-  weak_before [] v p = at_first v
+  weak_before [] v p = at_first S nobody v
   weak_before (u ∷ h) v p = (or_parts (strong_by S.rule (counted (u ∷ h) 1 v)) _ (or_parts (ever (λ g. echoes S v (seen g)) h) _ p).1).0
 
   other_same : (h : List Vote) (v : ℕ) → (w.value ≡ v → ⊥) → strong_by S.rule (counted (w ∷ h) 1 v) ≡ strong_by S.rule (counted h 1 v)

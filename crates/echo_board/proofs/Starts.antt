@@ -1,6 +1,7 @@
 -- A board's record and its words as it starts, and a word as a set of its value. Assumes nothing.
 use Rattle.std.proofs.Common.{◌≡◌, ℕ, ◌*◌, ◌%◌, ◌^◌, ◌<◌, ◌≤◌, Bool, true, false, not, ◌&&◌, ◌||◌, eqb, leb, [], ◌∷◌, Some, None, Option, sym, refl, ap, ◌∙◌, ⊎_elim, arith}
 use mathlib.Core.Bool.{and-true}
+use Rattle.std.proofs.Math.Bool.{and-not_self}
 use lib.Bits.{bit_or}
 use Rattle.std.proofs.lemmas.Nat.{one_shl}
 use Rattle.std.proofs.lemmas.Bool.{eq-eqb, ne_eqb, cases_eq}
@@ -38,17 +39,13 @@ module _ (o : Option ℕ) where
   high_held s e l = sym (set_of_none 9) ∙ set_of_ext 9 _ _ (λ v h. sym (ne_eqb v s (omega arith)) ∙ ap (is v) (sym e))
 
 -- ---- what is found where nothing, or something, was before
-never : (b : Bool) → false ≡ (b && not b)
-never true = refl
-never false = refl
-
 pub fresh_none : (b o : Option ℕ) → b ≡ None → values (λ v. is v o) ≡ fresh b o
 unfolding fresh
 fresh_none b o e = rw e (set_of_ext 9 _ _ (λ v h. sym (and-true (is v o))))
 
 pub fresh_some : (b o : Option ℕ) (u : ℕ) → b ≡ Some u → 0 ≡ fresh b o
 unfolding fresh
-fresh_some b o u e = rw e (sym (set_of_none 9) ∙ set_of_ext 9 _ _ (λ v h. never (eqb v u)))
+fresh_some b o u e = rw e (sym (set_of_none 9) ∙ set_of_ext 9 _ _ (λ v h. sym (and-not_self (eqb v u))))
 
 -- ---- the start of a board
 and_none : (a b : Bool) → (a || (b && false)) ≡ a

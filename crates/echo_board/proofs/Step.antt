@@ -19,9 +19,9 @@ module _ (S : Setting) (s : ℕ) (h : List Vote) (w : Vote) (o : EchoRecord) (sh
   pub step_repeat : repeats h w ≡ true → (o ≡ record_of S s (with_vote h w)) × (None ≡ answer_of S s h w)
   step_repeat e = (shown ∙ ap (record_of S s) (sym (with_repeat h w e)), sym (answer_repeat S s h w e))
 
-  pub step_new : {p : EchoRecord} {y : Heard} {f : Findings} {n : News} → repeats h w ≡ false → y ≡ heard_of S.rule.crew (seen (w ∷ h)) → f ≡ completing (hearing o y) (findings_of S (seen (w ∷ h)))
+  pub step_new : S.rule.fails 0 ≡ true → {p : EchoRecord} {y : Heard} {f : Findings} {n : News} → repeats h w ≡ false → y ≡ heard_of S.rule.crew (seen (w ∷ h)) → f ≡ completing w.kind (hearing o y) (findings_of S (seen (w ∷ h)))
       → p ≡ remembering (hearing o y) f → n ≡ news_in (hearing o y) f → (p ≡ record_of S s (with_vote h w)) × (Some n ≡ answer_of S s h w)
-  step_new {y = y} {f = f} e noted found after news = (
-    after ∙ remembers S s h w o y f shown noted found ∙ ap (record_of S s) (sym (with_new h w e)),
-    ap {B = Option News} Some (news ∙ tells S s h w o y f shown noted found) ∙ sym (answer_new S s h w e),
+  step_new nobody {y = y} {f = f} e noted found after news = (
+    after ∙ remembers S nobody s h w o y f shown noted found ∙ ap (record_of S s) (sym (with_new h w e)),
+    ap {B = Option News} Some (news ∙ tells S nobody s h w o y f shown noted found) ∙ sym (answer_new S s h w e),
   )

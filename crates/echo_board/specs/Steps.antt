@@ -1,5 +1,5 @@
 -- One step on a record, as the code takes it: what the tests find now, what is kept of it, and what is new. Assumes nothing.
-use Rattle.std.specs.Prelude.{ℕ, ◌-◌, not, ◌&&◌, [], ◌∷◌, Option, bit_and, bit_or, nat_le}
+use Rattle.std.specs.Prelude.{ℕ, ◌-◌, cond, not, ◌&&◌, [], ◌∷◌, Option, ◌==◌, bit_and, bit_or, nat_le}
 use Rattle.vote.specs.declared.News.{News}
 use Rattle.vote.specs.History.{Seen}
 use Rattle.vote.specs.Search.{or_else, is}
@@ -21,10 +21,10 @@ findings_of S x = record {
   decision = verdict S S.depth x;
 }
 
--- what is kept of the findings f: what the record o holds, and otherwise what is found
-abbrev pub completing : EchoRecord → Findings → Findings
-completing o f = record {
-  echoes = f.echoes;
+-- What is made of the tests once a vote of kind c is counted: what the record o holds, and otherwise what is found; only an echo can make an echo due.
+abbrev pub completing : ℕ → EchoRecord → Findings → Findings
+completing c o f = record {
+  echoes = cond (c == 1) f.echoes 0;
   second = or_else o.second f.second;
   third = or_else o.third f.third;
   fourth = or_else o.fourth f.fourth;

@@ -15,6 +15,7 @@ use quorum::FailureRule;
 use vote::{Decision, News, Vote, Voting};
 
 // What a board has counted, the values that it has echoed, as a set, its words of the kinds 2 to 5, and its decision.
+// The words stay four fields: each is the answer of another test, and an array by kind would put numbers in the place of their names.
 #[derive(Clone, Copy)]
 pub struct EchoRecord {
     pub(crate) heard: Heard,
@@ -39,6 +40,7 @@ pub fn record_size() -> usize
 
 impl EchoRecord {
     // Nothing is counted, and the starting character is echoed.
+    #[tactic(auto, using(crate::proofs::Starts::start_echo, crate::proofs::Starts::start_is))]
     pub fn start(start: u8) -> EchoRecord
         requires { start ≤ max_characters }
         ensures { (S : Setting) → result ≡ record_of S start [] }
@@ -88,7 +90,7 @@ impl EchoRecord {
             return None;
         }
         self.heard.note(vote);
-        let found = self.find(voting);
+        let found = self.find(voting, vote.kind);
         Some(self.remember(found))
     }
 }

@@ -7,7 +7,7 @@ ghost use Rattle.vote.specs.History.{Seen};
 use crate::board::EchoRecord;
 use heard::decision;
 use quorum::FailureRule;
-use vote::{Decision, Depth, Voting};
+use vote::{Decision, Depth, ECHO, Voting};
 
 // The values to echo, as a set, the values of the kinds 2 to 5, and the decision.
 #[derive(Clone, Copy)]
@@ -20,7 +20,7 @@ pub(crate) struct Findings {
     pub(crate) decision: Option<Decision>,
 }
 
-// What is held, or else what is found. `or_else` tells a caller nothing of a test under a rule: it takes the closure as an FnOnce.
+// What is held, or else what is found. Tried with `or_else`: it takes an FnOnce, and of a test under a rule its contract then told nothing.
 fn held_or<T, F: Fn() -> Option<T>>(held: Option<T>, find: F) -> Option<T>
     requires { F.pre find }
     ensures { MatchOption held (F.post find result) (λ x. result ≡ Some x) }
@@ -32,12 +32,17 @@ fn held_or<T, F: Fn() -> Option<T>>(held: Option<T>, find: F) -> Option<T>
 }
 
 impl EchoRecord {
-    // Makes the tests of which there is no answer yet; at depth 1 the outcome decides, and there are no kinds 4 and 5.
-    pub(crate) fn find<R: FailureRule>(&self, voting: &Voting<R>) -> Findings
-        ensures { (x : Seen) → self.now.heard ≡ heard_of (R.meaning voting.now.rule.now).crew x → result ≡ completing self.now (findings_of (setting (R.meaning voting.now.rule.now) voting.now.characters voting.now.depth) x) }
+    // Makes the tests of which there is no answer yet, once a vote of the kind is counted: only an echo can make an echo due.
+    // At depth 1 the outcome decides, and there are no kinds 4 and 5.
+    pub(crate) fn find<R: FailureRule>(&self, voting: &Voting<R>, kind: u8) -> Findings
+        ensures { (x : Seen) → self.now.heard ≡ heard_of (R.meaning voting.now.rule.now).crew x → result ≡ completing kind self.now (findings_of (setting (R.meaning voting.now.rule.now) voting.now.characters voting.now.depth) x) }
     {
         let heard = &self.heard;
-        let echoes = heard.echoes(voting);
+        let echoes = if kind == ECHO {
+            heard.echoes(voting)
+        } else {
+            0
+        };
         let second = held_or(self.second, || heard.second(voting));
         let third = held_or(self.third, || heard.third(voting));
         match voting.depth {

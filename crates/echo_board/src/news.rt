@@ -25,6 +25,7 @@ fn value_set(word: Option<u8>) -> u16
 }
 
 // The value that is found, unless a word was there before.
+#[tactic(auto, using(crate::proofs::Starts::fresh_none, crate::proofs::Starts::fresh_some))]
 pub(crate) fn fresh(before: Option<u8>, found: Option<u8>) -> u16
     ensures { result ≡ fresh_of before found }
 {
@@ -35,6 +36,7 @@ pub(crate) fn fresh(before: Option<u8>, found: Option<u8>) -> u16
 }
 
 // What a board posts as it starts with a character: its echo.
+#[tactic(auto, using(crate::proofs::Starts::start_news))]
 pub fn first_news(start: u8) -> News
     requires { start ≤ max_characters }
     ensures { (S : Setting) → result ≡ first_news (echo S) start }

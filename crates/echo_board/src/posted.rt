@@ -12,6 +12,7 @@ use vote::{Decision, ECHO};
 
 impl EchoRecord {
     // What is decided, if anything is.
+    #[tactic(auto, unfolding(crate::specs::Records::record_of))]
     pub fn decided(&self) -> Option<Decision>
         ensures { (S : Setting) (start : ℕ) (h : List Vote) → self.now ≡ record_of S start h → result ≡ decided_by S h }
     {
@@ -19,6 +20,7 @@ impl EchoRecord {
     }
 
     // The word of a kind other than 1 that is posted, if it is.
+    #[tactic(auto, using(crate::proofs::Fields::said_none), unfolding(crate::specs::Records::record_of))]
     fn said(&self, kind: u8) -> Option<u8>
         ensures { (S : Setting) (start : ℕ) (h : List Vote) → self.now ≡ record_of S start h → (kind ≢ 1) → result ≡ said_by S h kind }
     {
@@ -32,6 +34,7 @@ impl EchoRecord {
     }
 
     // Whether the word of this kind and value is posted, whatever these numbers are.
+    #[tactic(auto, using(crate::proofs::Fields::echo_posted, crate::proofs::Fields::word_posted))]
     pub fn has_posted(&self, kind: u8, value: u8) -> bool
         ensures { (S : Setting) (start : ℕ) (h : List Vote) → start ≤ max_characters → S.characters ≤ max_characters → self.now ≡ record_of S start h → result ≡ posts S start h kind value }
     {

@@ -1,9 +1,9 @@
 -- A set of values that a loop builds from below. Assumes nothing.
-use Rattle.std.proofs.Common.{◌≡◌, ℕ, ◌+◌, ◌*◌, ◌%◌, ◌^◌, ◌<◌, ◌≤◌, Bool, true, false, ◌&&◌, ◌||◌, eqb, ltb, leb, sym, refl, ◌∙◌, ap₂, ⊎_elim, arith}
+use Rattle.std.proofs.Common.{◌≡◌, ℕ, ◌+◌, ◌*◌, ◌%◌, ◌^◌, ◌<◌, Bool, true, false, ◌&&◌, ◌||◌, eqb, ltb, sym, refl, ◌∙◌, ap₂, ⊎_elim, arith}
 use mathlib.Core.Bool.{and-false, or-false}
 use lib.Bits.{bit_or}
 use Rattle.std.proofs.lemmas.Nat.{one_shl}
-use Rattle.std.proofs.lemmas.Bool.{cases_order, eq-eqb, ne_eqb, lt-ltb, le-ltb, le-leb, lt-leb, cases_lt}
+use Rattle.std.proofs.lemmas.Bool.{cases_order, eq-eqb, ne_eqb, lt-ltb, le-ltb}
 use Rattle.quorum.proofs.Masks.{set_of_ext, set_of_insert}
 use Rattle.vote.specs.News.{values}
 use Rattle.vote.proofs.Seeking.{set_of_none}
@@ -32,10 +32,3 @@ module _ (p : ℕ → Bool) (i : ℕ) where
 
   pub values_out : (f : ℕ) → f ≡ values (λ v. ltb v i && p v) → p i ≡ false → f ≡ values (λ v. ltb v (i + 1) && p v)
   values_out f e q = e ∙ set_of_ext 9 _ _ (λ v l. more_out v q)
-
-until : (v k : ℕ) → ltb v (k + 1) ≡ leb v k
-until v k = ⊎_elim (λ (h : v < k + 1). lt-ltb v (k + 1) h ∙ sym (le-leb v k (omega arith))) (λ (h : k + 1 ≤ v). le-ltb v (k + 1) h ∙ sym (lt-leb v k (omega arith))) (cases_lt v (k + 1))
-
-pub values_all : (p : ℕ → Bool) (k i f : ℕ) → f ≡ values (λ v. ltb v i && p v) → k + 1 ≤ i → i ≤ k + 1 → f ≡ values (λ v. leb v k && p v)
-values_all p k i f e a b =
-    let q : i ≡ k + 1 = omega arith in e ∙ set_of_ext 9 _ _ (λ v l. rw (q, until v k))

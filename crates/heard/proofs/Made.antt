@@ -19,7 +19,7 @@ use Rattle.heard.specs.declared.tally.Tally.{Tally}
 use Rattle.heard.specs.declared.counted.Heard.{Heard}
 use Rattle.heard.specs.Shown.{heard_of, tally_of}
 use Rattle.heard.specs.Masks.{beyond, others, ample_from, backed_in}
-use Rattle.heard.proofs.Read.{table_at, echo_at, value_at, all_at}
+use Rattle.heard.proofs.Read.{tally_all, tally_value, echo_at, value_at, all_at}
 
 other_is : (u : ℕ) (a : Option ℕ) → (given a && not (is u a)) ≡ other u a
 other_is u None = refl
@@ -38,16 +38,14 @@ from_one (suc v) = le-leb 1 (suc v) (omega arith) ∙ sym (ap not (ne_eqb (suc v
 -- ---- the senders of a value are some of all, so where all are not ample, they are not
 module _ (R : Rule) (k : ℕ) (low : k ≤ 8) (from : ℕ) (f : ℕ → Option ℕ) (t : Tally) (e : t ≡ tally_of R.crew f) where
   pub shared_is : seek (suc k) (ample_from R t.values from) ≡ seek (suc k) (λ v. leb from v && ample_by R (λ i. is v (f i)))
-  unfolding tally_of
-  shared_is =
-      seek_ext (suc k) _ _ (λ v h. ap (λ (s : ℕ). leb from v && ample R s) (ap (λ (y : Tally). get_or y.values v 0) e ∙ table_at 9 (λ v. set_of R.crew (λ i. is v (f i))) v 0 (omega arith)))
+  shared_is = seek_ext (suc k) _ _ (λ v h. ap (λ (s : ℕ). leb from v && ample R s) (tally_value R.crew f t e v (omega arith)))
 
   pub none_shared : AmpleSetsShare R → ample R t.all ≡ false → None ≡ seek (suc k) (λ v. leb from v && ample_by R (λ i. is v (f i)))
-  unfolding tally_of AmpleSetsShare
+  unfolding AmpleSetsShare
   none_shared facts few =
       sym (nothing_below (suc k) _ (λ v h. and_right (leb from v) _ (false_since (ample_by R (λ i. is v (f i))) _
       (facts.grows _ _ (λ i l q. member_set_of R.crew (λ i. given (f i)) i l ∙ borne v (f i) (sym (member_set_of R.crew (λ i. is v (f i)) i l) ∙ q)))
-      (ap (λ (y : Tally). ample R y.all) (sym e) ∙ few))))
+      (ap (ample R) (sym (tally_all R.crew f t e)) ∙ few))))
     where
       borne : (v : ℕ) (o : Option ℕ) → is v o ≡ true → given o ≡ true
       borne v None q = absurd (false≢true q)

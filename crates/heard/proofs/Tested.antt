@@ -69,9 +69,6 @@ module _ (R : Rule) (k : ℕ) (low : k ≤ 8) (o : Heard) (d : Depth) (x : Seen)
   abbrev Held : Option Decision
   Held = cond (Late 5) (decides 1 (lowest (setting R k d) (backed (setting R k d) x))) None
 
-  pub no_held : {b : Bool} → b ≡ Late 5 → b ≡ false → None ≡ Held
-  no_held p q = rw (sym p ∙ q)
-
   pub held_made : {h : Option Decision} {v : Option ℕ} {b : Bool} → h ≡ cond b (decides 1 v) None → b ≡ Late 5
       → v ≡ seek (suc k) (backed_in R (get_or o.first 3 beyond).values (get_or o.first 4 beyond).values) → h ≡ Held
   unfolding lowest backed

@@ -20,6 +20,7 @@ pub struct Heard {
 
 impl Heard {
     // Nothing is counted.
+    #[tactic(auto, using(crate::proofs::Grow::nothing_is))]
     pub fn start() -> Heard
         ensures { (n : ℕ) → result ≡ heard_of n (seen []) }
     {
@@ -30,6 +31,7 @@ impl Heard {
     }
 
     // Whether the vote is counted already.
+    #[tactic(auto, using(crate::proofs::Grow::repeats_echo, crate::proofs::Grow::repeats_kind))]
     pub fn repeats(&self, vote: Vote) -> bool
         requires { InRange vote }
         ensures { (n : ℕ) (h : List Vote) → vote.sender < n → self.now ≡ heard_of n (seen h) → result ≡ is_repeated h vote }
@@ -52,6 +54,7 @@ impl Heard {
     }
 
     // Counts the vote.
+    #[tactic(auto, using(crate::proofs::Grow::noted_is))]
     pub fn note(&mut self, vote: Vote)
         requires { InRange vote }
         ensures { (n : ℕ) (h : List Vote) → vote.sender < n → self.old ≡ heard_of n (seen h) → self.new ≡ heard_of n (seen (vote ∷ h)) }

@@ -35,7 +35,7 @@ pub(crate) fn lowest_shared<R: FailureRule>(
     lowest_ample(voting, &tally.values, from)
 }
 
-// The values whose senders are strong, as a set.
+// The values whose senders are strong, as a set. A loop, as a fold would only carry the set through a closure.
 pub(crate) fn strong_values<R: FailureRule>(voting: &Voting<R>, senders: &[u16; VALUES]) -> u16
     ensures { result ≡ values (λ v. nat_le v voting.now.characters && is_strong (R.meaning voting.now.rule.now) (slice_index senders.now v)) }
 {
@@ -52,7 +52,9 @@ pub(crate) fn strong_values<R: FailureRule>(voting: &Voting<R>, senders: &[u16; 
 pub(crate) fn parted_among<R: FailureRule>(voting: &Voting<R>, openings: &Tally) -> bool
     ensures { result ≡ all_below (suc voting.now.characters) (λ u. is_strong (R.meaning voting.now.rule.now) (others_of openings.now u)) }
 {
-    voting.lowest(|u| !strong(voting.rule, openings.others(u))).is_none()
+    voting
+        .lowest(|u| !strong(voting.rule, openings.others(u)))
+        .is_none()
 }
 
 // The lowest character with a sender in `fifth` and strong senders in `fourth`.

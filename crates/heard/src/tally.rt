@@ -17,6 +17,7 @@ pub struct Tally {
 
 impl Tally {
     // Nobody has voted.
+    #[tactic(auto, using(crate::proofs::Grow::nobody_is))]
     pub fn empty() -> Tally
         ensures { (n : ℕ) → result ≡ tally_of n (λ i. None) }
     {

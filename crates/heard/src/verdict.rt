@@ -21,13 +21,17 @@ pub fn decision(grade: u8, outcome: Option<u8>) -> Option<Decision>
 
 impl Heard {
     // What is decided at grade 1: if mixed and all senders of kind 5 are ample, the lowest backed character.
+    #[tactic(auto, using(crate::proofs::Tested::held_made))]
     fn held<R: FailureRule>(&self, voting: &Voting<R>) -> Option<Decision>
         ensures { Makes (R.meaning voting.now.rule.now) voting.now.characters (λ S x. cond (is_mixed S x && ample_by S.rule (speaks x 5)) (decides 1 (lowest S (backed S x))) None) self.now result }
     {
         if !self.late(voting, 5) {
             return None;
         }
-        decision(1, lowest_backed(voting, &self.first[3].values, &self.first[4].values))
+        decision(
+            1,
+            lowest_backed(voting, &self.first[3].values, &self.first[4].values),
+        )
     }
 
     pub fn verdict<R: FailureRule>(&self, voting: &Voting<R>) -> Option<Decision>

@@ -26,6 +26,7 @@ impl Heard {
     }
 
     // Test 3: the value of kind 2.
+    #[tactic(auto, using(crate::proofs::Tested::second_made))]
     pub fn second<R: FailureRule>(&self, voting: &Voting<R>) -> Option<u8>
         ensures { Makes (R.meaning voting.now.rule.now) voting.now.characters second_of self.now result }
     {

@@ -1,5 +1,6 @@
 -- What the plain method posts, and its news: the branch once it is fixed, and otherwise none. Assumes nothing.
 use Rattle.std.proofs.Common.{◌≡◌, ℕ, ◌^◌, ◌≤◌, Bool, true, false, not, ◌&&◌, eqb, List, [], ◌∷◌, Some, None, Option, sym, refl, ap, ◌∙◌, ap₂, ⊎_elim, arith}
+use Rattle.std.proofs.Math.Bool.{and-not_self}
 use Rattle.std.proofs.lemmas.Bool.{eq-eqb, ne_eqb, cases_eq}
 use Rattle.quorum.proofs.Masks.{set_of_is, set_of_ext}
 use Rattle.quorum.specs.Members.{member_bit}
@@ -12,15 +13,11 @@ use Rattle.vote.specs.Setting.{Setting}
 use Rattle.agreement.specs.Plain.{branch, branch_posted, posts, plain}
 use Rattle.vote.specs.News.{values, news_of}
 use Rattle.plain_board.specs.Step.{no_news, branch_news}
-use Rattle.plain_board.proofs.Masks.{set_of_none}
+use Rattle.vote.proofs.Seeking.{set_of_none}
 
 -- kind 2 alone can be new
 abbrev with_second : ℕ → News
 with_second s = record { kinds = 0 ∷ s ∷ 0 ∷ 0 ∷ 0 ∷ [] }
-
-not_both : (b : Bool) → (b && not b) ≡ false
-not_both true = refl
-not_both false = refl
 
 turned : (v b : ℕ) → eqb b v ≡ (eqb v b && true)
 turned v b =
@@ -32,7 +29,7 @@ one_value : (b : ℕ) → b ≤ 8 → values (λ v. eqb v b && true) ≡ 2 ^ b
 one_value b low = set_of_is 9 (2 ^ b) _ (λ v h. member_bit v b ∙ turned v b) (λ v h. member_bit v b ∙ ne_eqb b v (omega arith))
 
 none_new : (p : ℕ → Bool) → values (λ v. p v && not (p v)) ≡ 0
-none_new p = set_of_ext 9 _ (λ v. false) (λ v h. not_both (p v)) ∙ set_of_none 9
+none_new p = set_of_ext 9 _ (λ v. false) (λ v h. and-not_self (p v)) ∙ set_of_none 9
 
 module _ (S : Setting) (start : ℕ) (h : List Vote) (w : Vote) where
   abbrev now_posted : Option ℕ

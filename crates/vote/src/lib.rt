@@ -15,6 +15,7 @@ pub use limits::{ECHO, KINDS, MAX_CHARACTERS, VALUES};
 pub use voting::Voting;
 
 // One word as a board counts it. Group and change are the board's own.
+// The kind stays a number: the methods are defined for all numbers, and a kind that there is not is refused above, not ruled out by its type.
 #[derive(Clone, Copy, PartialEq, Eq, Debug)]
 pub struct Vote {
     pub sender: u8,
@@ -23,6 +24,7 @@ pub struct Vote {
 }
 
 // A character with a grade from 1 to the depth, or (0, 0) for no character.
+// It stays no Option: to decide for no character is a decision, and what is decided is told as these two numbers.
 #[derive(Clone, Copy, PartialEq, Eq, Debug)]
 pub struct Decision {
     pub value: u8,
