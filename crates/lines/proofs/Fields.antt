@@ -1,5 +1,5 @@
 -- A number has no comma, so that the first comma ends the first of several. Assumes nothing.
-use Rattle.std.proofs.Common.{◌≡◌, ℕ, ◌+◌, ◌<◌, ◌≤◌, false, eqb, List, [], ◌∷◌, ◌++◌, length, get_or, take, drop, Some, None, Option, sym, refl, ap, ◌∙◌, ap₂, drop-drop, arith, length-append}
+use Rattle.std.proofs.Common.{◌≡◌, ℕ, ◌+◌, ◌≤◌, false, eqb, List, [], ◌∷◌, ◌++◌, length, get_or, take, drop, Some, None, Option, sym, refl, ap, ◌∙◌, ap₂, drop-drop, arith, length-append}
 use Rattle.std.specs.List.{All, join_with_byte, position, position_or_len}
 use Rattle.std.proofs.Math.Seq.{take-append_seam, drop-append_seam, get_or-append_seam}
 use Rattle.std.proofs.lemmas.Bool.{ne_eqb, eqb-true, lt-ltb, cond-true, cond-false}
@@ -42,7 +42,7 @@ field_at p rest v e =
     let bs = p ++ comma ∷ rest in
     let l : length bs ≡ length p + 1 + length rest = omega (arith, length-append p (comma ∷ rest)) in
     let first : position_or_len (λ b. eqb b comma) bs ≡ length p = position_or_len_is (λ b. eqb b comma) bs (length p) 0 (omega arith)
-        (λ k less. ap (λ b. eqb b comma) (get_or_append_left p (comma ∷ rest) 0 k less) ∙ no_comma_on None p v e k 0 less) (λ _. ap (λ b. eqb b comma) (get_or-append_seam p comma rest 0)) in
+    (λ k less. ap (λ b. eqb b comma) (get_or_append_left p (comma ∷ rest) 0 k less) ∙ no_comma_on None p v e k 0 less) (λ _. ap (λ b. eqb b comma) (get_or-append_seam p comma rest 0)) in
     let found : position (λ b. eqb b comma) bs ≡ Some (length p) = cond-true _ _ None (lt-ltb _ (length bs) (omega arith)) ∙ ap {B = Option ℕ} Some first in
     let behind : drop (length p + 1) bs ≡ rest = sym (drop-drop 1 (length p) bs) ∙ ap (drop 1) (drop-append_seam p (comma ∷ rest)) in
     ap (λ (o : Option ℕ). and_then o (λ i. and_then (number_in (take i bs)) (λ w. Some (w, drop (i + 1) bs)))) found
@@ -58,14 +58,14 @@ field_first bs f call e =
     let k = then_some (number_in (take i bs)) _ f h.2 in
     let s : ◌≡◌ {A = ℕ × List ℕ} (k.0, drop (i + 1) bs) f = let q = k.2 in cc in
     let cut : take i bs ++ comma ∷ drop (i + 1) bs ≡ bs =
-        ap (λ xs. take i bs ++ xs) (sym (drop_more bs i 0 at.0 ∙ ap (λ b. b ∷ drop (i + 1) bs) (eqb-true (get_or bs i 0) comma at.1))) ∙ take-append-drop i bs in
+    ap (λ xs. take i bs ++ xs) (sym (drop_more bs i 0 at.0 ∙ ap (λ b. b ∷ drop (i + 1) bs) (eqb-true (get_or bs i 0) comma at.1))) ∙ take-append-drop i bs in
     ap (λ (g : ℕ × List ℕ). readable (numbers_in g.1) (λ vs. call (g.0 ∷ vs))) (sym s)
     ∙ moved k.0 (numbers_in (drop (i + 1) bs))
     ∙ ap (λ (o : Option (List ℕ)). readable o call) (sym (first_read (take i bs) (drop (i + 1) bs) k.0 k.1) ∙ ap numbers_in cut)
   where
-  moved : (v : ℕ) (o : Option (List ℕ)) → readable o (λ vs. call (v ∷ vs)) ≡ readable (and_then o (λ vs. Some (v ∷ vs))) call
-  moved v None = refl
-  moved v (Some vs) = refl
+    moved : (v : ℕ) (o : Option (List ℕ)) → readable o (λ vs. call (v ∷ vs)) ≡ readable (and_then o (λ vs. Some (v ∷ vs))) call
+    moved v None = refl
+    moved v (Some vs) = refl
 
 -- ---- none
 -- what is made of one number alone is not made of what writes none
@@ -75,11 +75,11 @@ module _ (call : List ℕ → Call) (others : (vs : List ℕ) → (length vs ≡
   of_parts (p ∷ []) j = ap (λ (o : Option ℕ). readable (and_then o (λ v. Some (v ∷ []))) call) (sym (ap number_in j ∙ none))
   of_parts (p ∷ q ∷ ps) j = of_two (number_in p) (number_in q) (each_number ps)
     where
-    of_two : (a b : Option ℕ) (o : Option (List ℕ)) → unreadable ≡ readable (and_then a (λ v. and_then (and_then b (λ w. and_then o (λ ws. Some (w ∷ ws)))) (λ vs. Some (v ∷ vs)))) call
-    of_two None b o = refl
-    of_two (Some v) None o = refl
-    of_two (Some v) (Some w) None = refl
-    of_two (Some v) (Some w) (Some ws) = others (v ∷ w ∷ ws) (λ e. omega arith)
+      of_two : (a b : Option ℕ) (o : Option (List ℕ)) → unreadable ≡ readable (and_then a (λ v. and_then (and_then b (λ w. and_then o (λ ws. Some (w ∷ ws)))) (λ vs. Some (v ∷ vs)))) call
+      of_two None b o = refl
+      of_two (Some v) None o = refl
+      of_two (Some v) (Some w) None = refl
+      of_two (Some v) (Some w) (Some ws) = others (v ∷ w ∷ ws) (λ e. omega arith)
 
   pub none_single : unreadable ≡ readable (numbers_in bs) call
   unfolding numbers_in
@@ -91,14 +91,14 @@ module _ (call : List ℕ → Call) (others : (vs : List ℕ) → length vs ≤ 
   of_pieces [] j = others [] (omega arith)
   of_pieces (p ∷ []) j = of_one (number_in p)
     where
-    of_one : (a : Option ℕ) → unreadable ≡ readable (and_then a (λ v. Some (v ∷ []))) call
-    of_one None = refl
-    of_one (Some v) = others (v ∷ []) (omega arith)
+      of_one : (a : Option ℕ) → unreadable ≡ readable (and_then a (λ v. Some (v ∷ []))) call
+      of_one None = refl
+      of_one (Some v) = others (v ∷ []) (omega arith)
   of_pieces (p ∷ q ∷ ps) j = of_first (number_in p) refl
     where
-    of_first : (a : Option ℕ) → number_in p ≡ a → unreadable ≡ readable (and_then a (λ v. and_then (each_number (q ∷ ps)) (λ vs. Some (v ∷ vs)))) call
-    of_first None e = refl
-    of_first (Some v) e = none_there (none ∙ ap field_in (sym j) ∙ field_at p (join_with_byte comma (q ∷ ps)) v e)
+      of_first : (a : Option ℕ) → number_in p ≡ a → unreadable ≡ readable (and_then a (λ v. and_then (each_number (q ∷ ps)) (λ vs. Some (v ∷ vs)))) call
+      of_first None e = refl
+      of_first (Some v) e = none_there (none ∙ ap field_in (sym j) ∙ field_at p (join_with_byte comma (q ∷ ps)) v e)
 
   pub none_led : unreadable ≡ readable (numbers_in bs) call
   unfolding numbers_in

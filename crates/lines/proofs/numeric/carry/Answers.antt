@@ -17,7 +17,7 @@ returns-in_err-from-clause-call c = λ line.
     let first : Some (to, c.in_ok-to.rest.now) ≡ field_in c.args.body.now = search rules in
     let none : None ≡ field_in c.in_ok-to.rest.now = search rules in
     let h = none_led (λ vs. carry_with (to ∷ vs)) (λ vs few. not_four (to ∷ vs) (λ e. omega arith)) c.in_ok-to.rest.now none
-        ∙ field_first c.args.body.now (to, c.in_ok-to.rest.now) carry_with first in search rules
+    ∙ field_first c.args.body.now (to, c.in_ok-to.rest.now) carry_with first in search rules
 
 pub returns-in_err-kind-clause-call : goal.returns-in_err-kind-clause-call
 returns-in_err-kind-clause-call c = λ line.
@@ -27,8 +27,8 @@ returns-in_err-kind-clause-call c = λ line.
     let second : Some (from, c.in_ok-from.rest.now) ≡ field_in c.in_ok-to.rest.now = search rules in
     let none : None ≡ field_in c.in_ok-from.rest.now = search rules in
     let h = none_led (λ vs. carry_with (to ∷ from ∷ vs)) (λ vs few. not_four (to ∷ from ∷ vs) (λ e. omega arith)) c.in_ok-from.rest.now none
-        ∙ field_first c.in_ok-to.rest.now (from, c.in_ok-from.rest.now) (λ vs. carry_with (to ∷ vs)) second
-        ∙ field_first c.args.body.now (to, c.in_ok-to.rest.now) carry_with first in search rules
+    ∙ field_first c.in_ok-to.rest.now (from, c.in_ok-from.rest.now) (λ vs. carry_with (to ∷ vs)) second
+    ∙ field_first c.args.body.now (to, c.in_ok-to.rest.now) carry_with first in search rules
 
 pub returns-in_err-number-clause-call : goal.returns-in_err-number-clause-call
 returns-in_err-number-clause-call c = λ line.
@@ -40,9 +40,9 @@ returns-in_err-number-clause-call c = λ line.
     let third : Some (kind, c.in_ok-kind.rest.now) ≡ field_in c.in_ok-from.rest.now = search rules in
     let none : number_in c.in_ok-kind.rest.now ≡ None = search rules in
     let h = none_single (λ vs. carry_with (to ∷ from ∷ kind ∷ vs)) (λ vs other. not_four (to ∷ from ∷ kind ∷ vs) (λ e. other (omega arith))) c.in_ok-kind.rest.now none
-        ∙ field_first c.in_ok-from.rest.now (kind, c.in_ok-kind.rest.now) (λ vs. carry_with (to ∷ from ∷ vs)) third
-        ∙ field_first c.in_ok-to.rest.now (from, c.in_ok-from.rest.now) (λ vs. carry_with (to ∷ vs)) second
-        ∙ field_first c.args.body.now (to, c.in_ok-to.rest.now) carry_with first in search rules
+    ∙ field_first c.in_ok-from.rest.now (kind, c.in_ok-kind.rest.now) (λ vs. carry_with (to ∷ from ∷ vs)) third
+    ∙ field_first c.in_ok-to.rest.now (from, c.in_ok-from.rest.now) (λ vs. carry_with (to ∷ vs)) second
+    ∙ field_first c.args.body.now (to, c.in_ok-to.rest.now) carry_with first in search rules
 
 pub returns-clause-call : goal.returns-clause-call
 returns-clause-call c = λ line.
