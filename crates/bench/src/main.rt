@@ -11,17 +11,29 @@ use std::io::{BufWriter, Read, Write};
 // How many bytes are read at a time.
 const CHUNK: usize = 65536;
 
+// The line so far: the part alone where it is a whole line, else what was begun before and the part behind it.
+fn continued<'a>(begun: &'a mut Gathered, part: &'a [u8]) -> &'a [u8] {
+    if begun.line().is_empty() && part.ends_with(b"\n") {
+        return part;
+    }
+    for byte in part {
+        begun.add(*byte);
+    }
+    begun.line()
+}
+
 // Plays the lines that the bytes end; what is left of them begins the next line.
 fn play(
     out: &mut impl Write,
     session: &mut Session,
-    line: &mut Gathered,
+    begun: &mut Gathered,
     bytes: &[u8],
 ) -> io::Result<()> {
-    for byte in bytes {
-        if line.add(*byte) {
-            let reply = session.play(line.line());
-            *line = Gathered::new();
+    for part in bytes.split_inclusive(|b| *b == b'\n') {
+        let line = continued(begun, part);
+        if part.ends_with(b"\n") {
+            let reply = session.play(line);
+            *begun = Gathered::new();
             writeln!(out, "{reply}")?;
         }
     }
@@ -32,16 +44,17 @@ fn main(rt: HostRuntime) -> io::Result<()> {
     let mut out = BufWriter::new(rt.alloc(), rt.stdout())?;
     let mut chunk = vec![in rt.alloc(); 0; CHUNK]?;
     let mut session = Session::new();
-    let mut line = Gathered::new();
+    let mut begun = Gathered::new();
+    // A count, as a loop that waits on input has no other form yet.
     for _ in 0..u64::MAX {
         let many = rt.stdin().read(&mut chunk)?;
         if many == 0 {
             break;
         }
-        play(&mut out, &mut session, &mut line, &chunk[0..many])?;
+        play(&mut out, &mut session, &mut begun, &chunk[0..many])?;
     }
-    if !line.line().is_empty() {
-        play(&mut out, &mut session, &mut line, b"\n")?;
+    if !begun.line().is_empty() {
+        play(&mut out, &mut session, &mut begun, b"\n")?;
     }
     out.flush()
 }

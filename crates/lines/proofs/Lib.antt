@@ -3,4 +3,5 @@ pub mod Forging
 pub mod MarkedCases
 pub mod Spelling
 pub mod Writing
+pub mod Fields
 pub mod Readable

@@ -1,16 +1,13 @@
 -- The line that a call is written as is read as that call. Assumes nothing.
-use Rattle.std.proofs.Common.{◌≡◌, ℕ, ◌+◌, ◌-◌, ◌*◌, ◌/◌, ◌%◌, ◌<◌, ◌≤◌, true, false, eqb, ltb, List, [], ◌∷◌, ◌++◌, length, get_or, take, drop, Some, None, decimal, Option, sym, refl, ap, ◌∙◌, drop-drop, subst, ap₂, append_assoc, append-nil, arith, length-append}
-use Rattle.std.specs.List.{All, AllByRecursion, position, position_or_len}
+use Rattle.std.proofs.Common.{◌≡◌, ℕ, ◌+◌, ◌-◌, ◌*◌, ◌/◌, ◌%◌, ◌<◌, ◌≤◌, true, eqb, ltb, List, [], ◌∷◌, ◌++◌, length, get_or, take, Some, None, decimal, Option, sym, refl, ap, ◌∙◌, subst, ap₂, append_assoc, append-nil, arith, length-append}
+use Rattle.std.specs.List.{AllByRecursion}
 use Rattle.std.proofs.Math.Seq.{take-append_seam, drop-append_seam, get_or-append_seam}
 use Rattle.std.proofs.lemmas.Fmt.{decimal_by_steps}
-use Rattle.std.proofs.lemmas.List.{get_or_append_left}
-use Rattle.std.proofs.lemmas.List.Elements.{recursion_from_All, All-nil, All-cons, All-append}
-use Rattle.std.proofs.lemmas.List.Splits.{slice_split_none, slice_split_at}
-use Rattle.std.proofs.lemmas.List.Sums.{position_or_len_is}
-use Rattle.std.proofs.lemmas.Bool.{eq-eqb, ne_eqb, lt-ltb, le-leb, and_from, cond-true}
+use Rattle.std.proofs.lemmas.List.Elements.{recursion_from_All}
+use Rattle.std.proofs.lemmas.Bool.{eq-eqb, lt-ltb, le-leb, and_from, cond-true}
 use Rattle.vote.specs.declared.Method.{Method}
 use Rattle.vote.specs.declared.Method.TheVariants.{Plain, Echo}
-use Rattle.numerals.specs.Numerals.{comma, max_number, and_then, digit, with_digit, number_on, number_in, each_number, parts, numbers_in}
+use Rattle.numerals.specs.Numerals.{comma, max_number, and_then, digit, with_digit, number_on, number_in, numbers_in}
 use Rattle.lines.specs.Parts.{field_in}
 use Rattle.vote.specs.Conversions.{method_of}
 use Rattle.lines.specs.Calls.{Failing, by_count, by_sets, Opening, Call, unreadable, opens, starts_board, carries, forges}
@@ -18,6 +15,7 @@ use Rattle.lines.specs.Lines.{line_feed, max_line, open_by_count_letter, open_by
 use Rattle.lines.specs.Texts.{letter_of, listed, opening_numbers, opening_text, numbers_of, text_of}
 use Rattle.lines.specs.Readable.{WellFormed, EachCallIsReadable}
 use Rattle.lines.proofs.Spelling.{then_some}
+use Rattle.lines.proofs.Fields.{one_read, first_read, field_at}
 
 -- ---- a number
 is_digit : (d : ℕ) → d < 10 → digit (48 + d) ≡ true
@@ -38,26 +36,15 @@ read_on (b ∷ p) q o w e =
     let h = then_some (with_digit o b) (λ v. number_on (Some v) p) w e in
     ap (λ (x : Option ℕ). and_then x (λ v. number_on (Some v) (p ++ q))) h.1 ∙ read_on p q (Some h.0) w h.2
 
--- a comma is none of the bytes
-abbrev NoComma : List ℕ → Type 0
-NoComma bs = All (λ b. eqb b comma ≡ false) bs
-
 -- the bytes write the number, which is not too large
 abbrev Reads : ℕ → List ℕ → Type 0
-Reads n bs = n ≤ max_number → (number_in bs ≡ Some n) × NoComma bs
+Reads n bs = n ≤ max_number → number_in bs ≡ Some n
 
-no_comma_digit : (d : ℕ) → d < 10 → NoComma ((48 + d) ∷ [])
-no_comma_digit d h = All-cons (λ b. eqb b comma ≡ false) (48 + d) [] (ne_eqb (48 + d) comma (λ e. omega arith)) (All-nil (λ b. eqb b comma ≡ false))
-
-decimal_reads : (n : ℕ) → n ≤ max_number → (number_in (decimal n) ≡ Some n) × NoComma (decimal n)
+decimal_reads : (n : ℕ) → n ≤ max_number → number_in (decimal n) ≡ Some n
 decimal_reads n small =
     decimal_by_steps Reads
-    (λ m l s. (ap (λ (x : Option ℕ). and_then x (λ v. Some v)) (first_digit m l), no_comma_digit m l))
-    (λ m ds l h s.
-    let k = h (omega arith) in (
-      read_on ds ((48 + m % 10) ∷ []) None (m / 10) k.0 ∙ ap (λ (x : Option ℕ). and_then x (λ v. Some v)) (further_digit m l s),
-      All-append (λ b. eqb b comma ≡ false) ds _ k.1 (no_comma_digit (m % 10) (omega arith)),
-    ))
+    (λ m l s. ap (λ (x : Option ℕ). and_then x (λ v. Some v)) (first_digit m l))
+    (λ m ds l h s. read_on ds ((48 + m % 10) ∷ []) None (m / 10) (h (omega arith)) ∙ ap (λ (x : Option ℕ). and_then x (λ v. Some v)) (further_digit m l s))
     n (omega arith) small
 
 -- ---- numbers with commas between
@@ -65,29 +52,12 @@ abbrev AllSmall : List ℕ → Type 0
 AllSmall vs = AllByRecursion (λ v. v ≤ max_number) vs
 
 each_read : (v : ℕ) (vs : List ℕ) → AllSmall (v ∷ vs) → numbers_in (decimal v ++ listed vs) ≡ Some (v ∷ vs)
-unfolding numbers_in
-each_read v [] h =
-    let d = decimal_reads v h.0 in
-    let p : parts (decimal v ++ []) ≡ decimal v ∷ [] = ap parts (append-nil (decimal v)) ∙ slice_split_none (λ b. eqb b comma) (decimal v) d.1 in
-    ap each_number p ∙ ap (λ (o : Option ℕ). and_then o (λ w. Some (w ∷ []))) d.0
+each_read v [] h = ap numbers_in (append-nil (decimal v)) ∙ one_read (decimal v) v (decimal_reads v h.0)
 each_read v (u ∷ us) h =
-    let d = decimal_reads v h.0 in
-    let p : parts (decimal v ++ comma ∷ (decimal u ++ listed us)) ≡ decimal v ∷ parts (decimal u ++ listed us) = slice_split_at (λ b. eqb b comma) (decimal v) comma (decimal u ++ listed us) d.1 refl in
-    ap each_number p ∙ ap₂ (λ (o : Option ℕ) (os : Option (List ℕ)). and_then o (λ w. and_then os (λ ws. Some (w ∷ ws)))) d.0 (each_read u us h.1)
+    first_read (decimal v) (decimal u ++ listed us) v (decimal_reads v h.0) ∙ ap (λ (o : Option (List ℕ)). and_then o (λ ws. Some (v ∷ ws))) (each_read u us h.1)
 
 field_read : (v : ℕ) (rest : List ℕ) → v ≤ max_number → field_in (decimal v ++ comma ∷ rest) ≡ Some (v, rest)
-field_read v rest h =
-    let d = decimal_reads v h in
-    let xs = decimal v in
-    let bs = xs ++ comma ∷ rest in
-    let l : length bs ≡ length xs + 1 + length rest = omega (arith, length-append xs (comma ∷ rest)) in
-    let first : position_or_len (λ b. eqb b comma) bs ≡ length xs = position_or_len_is (λ b. eqb b comma) bs (length xs) 0 (omega arith)
-    (λ k less. ap (λ b. eqb b comma) (get_or_append_left xs (comma ∷ rest) 0 k less) ∙ d.1 k 0 less) (λ _. ap (λ b. eqb b comma) (get_or-append_seam xs comma rest 0)) in
-    let found : position (λ b. eqb b comma) bs ≡ Some (length xs) = cond-true _ _ None (lt-ltb _ (length bs) (omega arith)) ∙ ap {B = Option ℕ} Some first in
-    let behind : drop (length xs + 1) bs ≡ rest = sym (drop-drop 1 (length xs) bs) ∙ ap (drop 1) (drop-append_seam xs (comma ∷ rest)) in
-    ap (λ (o : Option ℕ). and_then o (λ i. and_then (number_in (take i bs)) (λ w. Some (w, drop (i + 1) bs)))) found
-    ∙ ap₂ (λ p r. and_then (number_in p) (λ w. Some (w, r))) (take-append_seam xs (comma ∷ rest)) behind
-    ∙ ap (λ (o : Option ℕ). and_then o (λ w. Some (w, rest))) d.0
+field_read v rest h = field_at (decimal v) rest v (decimal_reads v h)
 
 -- ---- a line of a letter, a comma, bytes and a line feed
 abbrev ended : ℕ → List ℕ → List ℕ

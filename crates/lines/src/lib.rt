@@ -3,6 +3,7 @@
 
 #![tactic(auto)]
 
+mod field;
 mod forge;
 mod head;
 mod line;

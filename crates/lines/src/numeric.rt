@@ -1,26 +1,26 @@
 // Lines of a letter and numbers alone.
 ghost use Rattle.std.specs.Prelude.{◌≡◌, ℕ, List};
-ghost use Rattle.lines.specs.Lines.{start_with, carry_with};
+ghost use Rattle.lines.specs.Lines.{readable, start_with, carry_with};
 ghost use Rattle.lines.specs.Told.{call_of, Within};
+ghost use Rattle.numerals.specs.Numerals.{numbers_in};
 
+use crate::field::read_field;
 use crate::line::Line;
+use numerals::number;
 
-pub(crate) fn start(numbers: &[u16]) -> Option<Line>
-    ensures call { (line : List ℕ) → call_of line result ≡ start_with numbers.now }
+pub(crate) fn start(body: &[u8]) -> Option<Line>
+    ensures call { (line : List ℕ) → call_of line result ≡ readable (numbers_in body.now) start_with }
     ensures within { (line : List ℕ) → Within line result }
 {
-    let [board] = numbers else {
-        return None;
-    };
-    Some(Line::Start(*board))
+    Some(Line::Start(number(body)?))
 }
 
-pub(crate) fn carry(numbers: &[u16]) -> Option<Line>
-    ensures call { (line : List ℕ) → call_of line result ≡ carry_with numbers.now }
+pub(crate) fn carry(body: &[u8]) -> Option<Line>
+    ensures call { (line : List ℕ) → call_of line result ≡ readable (numbers_in body.now) carry_with }
     ensures within { (line : List ℕ) → Within line result }
 {
-    let [to, from, kind, value] = numbers else {
-        return None;
-    };
-    Some(Line::Carry(*to, *from, *kind, *value))
+    let (to, rest) = read_field(body)?;
+    let (from, rest) = read_field(rest)?;
+    let (kind, rest) = read_field(rest)?;
+    Some(Line::Carry(to, from, kind, number(rest)?))
 }

@@ -9,7 +9,6 @@ ghost use Rattle.lines.specs.Told.{call_of, Within};
 use crate::forge::forge;
 use crate::head::read_head;
 use crate::line::Line;
-use crate::list::read_numbers;
 use crate::numeric::{carry, start};
 use crate::opening::open;
 use crate::plan::By;
@@ -32,8 +31,8 @@ fn read(line: &[u8]) -> Option<Line>
     match letter {
         b'o' => open(&read_head(body)?, By::Count),
         b'g' => open(&read_head(body)?, By::Sets),
-        b's' => start(read_numbers(body)?.as_slice()),
-        b'c' => carry(read_numbers(body)?.as_slice()),
+        b's' => start(body),
+        b'c' => carry(body),
         b'f' => forge(line),
         _ => None,
     }

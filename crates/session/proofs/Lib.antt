@@ -1,3 +1,4 @@
+pub mod Gathering
 pub mod Openings
 pub mod Cutting
 pub mod Calling

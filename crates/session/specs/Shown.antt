@@ -9,13 +9,15 @@ use Rattle.group.specs.declared.group.Group.{Group}
 use Rattle.group.specs.declared.opening.Opening as asked
 use Rattle.group.specs.Calls.{Call, answered}
 use Rattle.group.specs.Opening.{Settles}
-use Rattle.group.specs.Promises.{Reached, Promise}
+use Rattle.group.specs.declared.fault.GroupFault.{GroupFault}
+use Rattle.group.specs.declared.turn.Turn.{Turn}
+use Rattle.group.specs.Promises.{Reached, Plays, Promise}
 use Rattle.session.specs.declared.reply.Played.{Played}
 use Rattle.session.specs.declared.reply.Reply.{Reply}
 use Rattle.session.specs.declared.fault.SessionFault.{SessionFault}
 use Rattle.session.specs.Opening.{rule_of, opening_fault, group_number, change_number}
-use Rattle.session.specs.Standing.{Standing, nothing_open, stands_open, stands_with, stands_after}
-use Rattle.session.specs.Replies.{group_says, answer_of, reply_of}
+use Rattle.session.specs.Standing.{Standing, nothing_open, stands_open, called_on, stands_with, stands_after}
+use Rattle.session.specs.Replies.{group_says, called_says, answer_of, reply_of}
 
 -- what the group is asked for
 abbrev pub asked_of : Opening → asked.Opening
@@ -55,6 +57,16 @@ abbrev pub Calls : Group EitherRule → Call → ℕ → Group EitherRule → Re
 Calls g x i h r =
     (o : Opening) (xs : List Call) → ShowsOpen g o xs
     → ShowsOpen h o (x ∷ xs) × (r ≡ group_says (rule_of o) g.terms x xs i (answered (rule_of o) g.terms x xs))
+
+-- Wherever a step leads on a group, and whatever it answers, it makes the call x.
+abbrev pub MakesCall : (Group EitherRule → Result Turn GroupFault → Group EitherRule → Type 0) → Call → Type 0
+MakesCall step x =
+    (g h : Group EitherRule) (r : Result Turn GroupFault) → step g r h
+    → (h.rule ≡ g.rule) × (h.terms ≡ g.terms) × Plays (either_rule g.rule) g.terms x g.records h.records r
+
+-- A call x on the group that is open, if one is, where board i is named first, leads from g to h and answers r, whatever has led to g.
+abbrev pub PlaysOn : Option (Group EitherRule) → Call → ℕ → Option (Group EitherRule) → Result Played SessionFault → Type 0
+PlaysOn g x i h r = (s : Standing) → Shows g s → Shows h (called_on s x) × (r ≡ called_says g s x i)
 
 -- What a line asks for leads from g to h and answers r, whatever has led to g.
 abbrev pub PlaysCall : Option (Group EitherRule) → lines.Call → Option (Group EitherRule) → Result Played SessionFault → Type 0

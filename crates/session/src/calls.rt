@@ -1,101 +1,46 @@
 // The calls on the group that is open, if one is.
 ghost use Rattle.std.specs.Prelude.{◌≡◌, length};
-ghost use Rattle.lines.specs.Calls.{opens, starts_board, carries, forges};
+ghost use Rattle.std.specs.Fn.{FnOnceReturnsAtMut};
+ghost use Rattle.lines.specs.Calls.{opens};
 ghost use Rattle.lines.specs.Told.{opening_of, starts_of};
-ghost use Rattle.group.specs.Calls.{starting, carrying, forging};
-ghost use Rattle.session.specs.Shown.{Calls, PlaysCall};
+ghost use Rattle.group.specs.Calls.{Call};
+ghost use Rattle.session.specs.Shown.{Calls, MakesCall, PlaysCall, PlaysOn};
 
 use crate::fault::SessionFault;
 use crate::opened::opened;
 use crate::reply::Played;
-use group::{Group, GroupFault};
+use group::{Group, GroupFault, Turn};
 use lines::Plan;
 use quorum::EitherRule;
 
-const NO_GROUP: SessionFault = SessionFault::Group(GroupFault::NoGroup);
-
-fn started(group: &mut Group<EitherRule>, board: u16) -> Result<Played, SessionFault>
-    ensures { Calls group.old (starting board) board group.new result }
+// Makes the call, and tells what the board that it names first has decided.
+fn called<F: FnOnce(&mut Group<EitherRule>) -> Result<Turn, GroupFault>>(
+    group: &mut Group<EitherRule>,
+    board: u16,
+    call: F,
+) -> Result<Played, SessionFault>
+    requires { F.IsAlwaysCallable call }
+    ensures { (x : Call) → MakesCall (FnOnceReturnsAtMut F.FnOnce call) x → Calls group.old x board group.new result }
 {
-    let turn = group.start(board)?;
+    let turn = call(group)?;
     Ok(Played {
         words: turn.words,
         decision: group.decided(board),
     })
 }
 
-// Starts a board.
-pub(crate) fn start(
+// The same on the group that is open.
+pub(crate) fn on<F: FnOnce(&mut Group<EitherRule>) -> Result<Turn, GroupFault>>(
     group: &mut Option<Group<EitherRule>>,
     board: u16,
+    call: F,
 ) -> Result<Played, SessionFault>
-    ensures { PlaysCall group.old (starts_board board) group.new result }
+    requires { F.IsAlwaysCallable call }
+    ensures { (x : Call) → MakesCall (FnOnceReturnsAtMut F.FnOnce call) x → PlaysOn group.old x board group.new result }
 {
     match group {
-        None => Err(NO_GROUP),
-        Some(group) => started(group, board),
-    }
-}
-
-fn carried(
-    group: &mut Group<EitherRule>,
-    to: u16,
-    from: u16,
-    kind: u16,
-    value: u16,
-) -> Result<Played, SessionFault>
-    ensures { Calls group.old (carrying to from kind value) to group.new result }
-{
-    let turn = group.carry(to, from, kind, value)?;
-    Ok(Played {
-        words: turn.words,
-        decision: group.decided(to),
-    })
-}
-
-// Takes a posted word to another board.
-pub(crate) fn carry(
-    group: &mut Option<Group<EitherRule>>,
-    to: u16,
-    from: u16,
-    kind: u16,
-    value: u16,
-) -> Result<Played, SessionFault>
-    ensures { PlaysCall group.old (carries to from kind value) group.new result }
-{
-    match group {
-        None => Err(NO_GROUP),
-        Some(group) => carried(group, to, from, kind, value),
-    }
-}
-
-fn forged(
-    group: &mut Group<EitherRule>,
-    to: u16,
-    from: u16,
-    bytes: &[u8],
-) -> Result<Played, SessionFault>
-    ensures { Calls group.old (forging to from bytes.now) to group.new result }
-{
-    let turn = group.forge(to, from, bytes)?;
-    Ok(Played {
-        words: turn.words,
-        decision: group.decided(to),
-    })
-}
-
-// Takes bytes to a board on the port of another.
-pub(crate) fn forge(
-    group: &mut Option<Group<EitherRule>>,
-    to: u16,
-    from: u16,
-    bytes: &[u8],
-) -> Result<Played, SessionFault>
-    ensures { PlaysCall group.old (forges to from bytes.now) group.new result }
-{
-    match group {
-        None => Err(NO_GROUP),
-        Some(group) => forged(group, to, from, bytes),
+        None => Err(SessionFault::Group(GroupFault::NoGroup)),
+        Some(group) => called(group, board, call),
     }
 }
 

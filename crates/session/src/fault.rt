@@ -17,12 +17,12 @@ pub enum SessionFault {
     Group(GroupFault),
 }
 
-impl SessionFault {
-    // What is told of the fault.
-    pub fn refusal(&self) -> Refusal
-        ensures { result ≡ refusal_of self.now }
-    {
-        match *self {
+// What is told of the fault.
+impl From<SessionFault> for Refusal {
+    ghost from_gives = { λ e r. r ≡ refusal_of e };
+
+    fn from(e: SessionFault) -> Refusal {
+        match e {
             SessionFault::Unreadable => Refusal {
                 number: 29,
                 place: None,

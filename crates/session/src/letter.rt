@@ -17,12 +17,15 @@ pub enum Letter {
     Forge,
 }
 
-pub(crate) fn opening_letter(by: By) -> Letter
-    ensures { (vs : List ℕ) → result ≡ opening_letter (failing_by by vs) }
-{
-    match by {
-        By::Count(_) => Letter::OpenByCount,
-        By::Sets(_) => Letter::OpenBySets,
+// The letter of an opening, by what its boards fail by.
+impl From<By> for Letter {
+    ghost from_gives = { λ by l. (vs : List ℕ) → l ≡ opening_letter (failing_by by vs) };
+
+    fn from(by: By) -> Letter {
+        match by {
+            By::Count(_) => Letter::OpenByCount,
+            By::Sets(_) => Letter::OpenBySets,
+        }
     }
 }
 

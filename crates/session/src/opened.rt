@@ -4,7 +4,7 @@ ghost use Rattle.lines.specs.Told.{opening_of, starts_of};
 ghost use Rattle.session.specs.Shown.{Opens};
 
 use crate::fault::SessionFault;
-use crate::opening::{asked, rule, sizes_fault};
+use crate::opening::{asked, rule, sizes};
 use group::Group;
 use lines::Plan;
 use quorum::EitherRule;
@@ -13,9 +13,7 @@ pub(crate) fn opened(plan: &Plan) -> Result<Group<EitherRule>, SessionFault>
     requires { length (starts_of plan.now) ≡ plan.now.crew }
     ensures { Opens (opening_of plan.now) result }
 {
-    if let Some(fault) = sizes_fault(plan) {
-        return Err(fault);
-    }
+    sizes(plan)?;
     let rule = rule(plan)?;
     let opening = asked(plan);
     let group = Group::open(rule, &opening)?;

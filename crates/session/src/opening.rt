@@ -5,6 +5,7 @@ ghost use Rattle.quorum.specs.Faults.{Made};
 ghost use Rattle.quorum.specs.Meaning.{either_rule};
 ghost use Rattle.session.specs.Opening.{cover_of, rule_of};
 ghost use Rattle.session.specs.Asked.{rule_fault, sizes_fault, Asks};
+ghost use Rattle.std.specs.Result.{result_err};
 
 use crate::fault::SessionFault;
 use board::BoardFault;
@@ -25,6 +26,7 @@ fn cover(method: Method) -> u16
 }
 
 // The rule that the line asks for, or what stands against it.
+#[tactic(auto, unfolding(crate::specs::Opening::rule_of))]
 pub(crate) fn rule(plan: &Plan) -> Result<EitherRule, RuleFault>
     ensures { Made (rule_fault (opening_of plan.now)) (rule_of (opening_of plan.now)) either_rule result }
 {
@@ -36,19 +38,19 @@ pub(crate) fn rule(plan: &Plan) -> Result<EitherRule, RuleFault>
 }
 
 // What stands against the sizes: crew, characters, depth.
-pub(crate) fn sizes_fault(plan: &Plan) -> Option<SessionFault>
-    ensures { result ≡ sizes_fault (opening_of plan.now) }
+pub(crate) fn sizes(plan: &Plan) -> Result<(), SessionFault>
+    ensures { result_err result ≡ sizes_fault (opening_of plan.now) }
 {
-    if plan.crew < 1 || plan.crew > 16 {
-        return Some(SessionFault::Rule(RuleFault::Crew));
+    if !(1..=16).contains(&plan.crew) {
+        return Err(SessionFault::Rule(RuleFault::Crew));
     }
-    if plan.characters < 1 || plan.characters > 8 {
-        return Some(SessionFault::Group(GroupFault::Opening(BoardFault::Characters)));
+    if !(1..=8).contains(&plan.characters) {
+        return Err(SessionFault::Group(GroupFault::Opening(BoardFault::Characters)));
     }
-    if plan.depth < 1 || plan.depth > 2 {
-        return Some(SessionFault::Group(GroupFault::Opening(BoardFault::Depth)));
+    if !(1..=2).contains(&plan.depth) {
+        return Err(SessionFault::Group(GroupFault::Opening(BoardFault::Depth)));
     }
-    None
+    Ok(())
 }
 
 // The starting characters, in as many places as a group has.
@@ -57,9 +59,7 @@ fn starts(given: &[u16]) -> [u16; BOARDS]
     ensures { take (length given.now) result ≡ given.now }
 {
     let mut places = [0; BOARDS];
-    for (i, start) in given.iter().enumerate() {
-        places[i] = *start;
-    }
+    places[..given.len()].copy_from_slice(given);
     places
 }
 

@@ -4,6 +4,7 @@ ghost use Rattle.session.specs.Texts.{reply_text};
 
 use crate::fault::SessionFault;
 use crate::letter::Letter;
+use refusal::Refusal;
 use std::fmt;
 use vote::Decision;
 
@@ -27,7 +28,7 @@ impl fmt::Display for Reply {
         let letter = self.letter;
         match self.answer {
             Err(fault) => {
-                let number = fault.refusal().number;
+                let Refusal { number, .. } = Refusal::from(fault);
                 write!(f, "{letter},{number},0,-,-")
             }
             Ok(played) => {

@@ -18,8 +18,8 @@ returns-in_ok-read_head-in-111-clause-within c = c.open.ensures.within c.args.li
 pub returns-in_ok-read_head-in-103-clause-within : goal.returns-in_ok-read_head-in-103-clause-within
 returns-in_ok-read_head-in-103-clause-within c = c.open-in-103.ensures.within c.args.line.now
 
-pub returns-in_ok-read_numbers-in-115-clause-within : goal.returns-in_ok-read_numbers-in-115-clause-within
-returns-in_ok-read_numbers-in-115-clause-within c = c.start.ensures.within c.args.line.now
+pub returns-in-115-clause-within : goal.returns-in-115-clause-within
+returns-in-115-clause-within c = c.start.ensures.within c.args.line.now
 
-pub returns-in_ok-read_numbers-in-99-clause-within : goal.returns-in_ok-read_numbers-in-99-clause-within
-returns-in_ok-read_numbers-in-99-clause-within c = c.carry.ensures.within c.args.line.now
+pub returns-in-99-clause-within : goal.returns-in-99-clause-within
+returns-in-99-clause-within c = c.carry.ensures.within c.args.line.now

@@ -1,28 +1,30 @@
-use Rattle.std.proofs.Common.{◌≡◌, ℕ, ◌-◌, List, length, take, drop, refl, subst, arith, length-drop}
-use Rattle.std.proofs.lemmas.List.{take_all}
+use Rattle.std.proofs.Common.{rules, drop, refl}
+use Rattle.std.proofs.lemmas.List.{take_rest}
 use Rattle.lines.specs.Calls.{unreadable, opens, starts_board, carries, forges}
-use Rattle.lines.specs.Items.{items}
+use Rattle.fixed.specs.Items.{items_of}
 use Rattle.lines.specs.Told.{opening_of}
-use Rattle.session.specs.Shown.{PlaysCall}
+use Rattle.group.specs.Calls.{starting, carrying, forging}
 use Rattle.session.proofs.Lining.{line_plays}
 use Rattle.session.proofs.played.play.Goals as goal
 
-pub returns-in-Unreadable : goal.returns-in-Unreadable
-returns-in-Unreadable c = line_plays _ _ c.args.line.now unreadable _ _ c.in-Unreadable.ensures.call refl (λ s shows. (shows, refl))
+pub returns-in-None : goal.returns-in-None
+returns-in-None c = line_plays _ _ c.args.line.now unreadable _ _ c.in-None.ensures.call refl (λ s shows. (shows, refl))
 
-pub returns-in-Open : goal.returns-in-Open
-returns-in-Open c = line_plays _ _ c.args.line.now (opens (opening_of c.in-Open.plan)) _ _ c.in-Open.ensures.call (c.opening_letter.ensures (items c.in-Open.plan.numbers)) c.open.ensures
+pub returns-in-Some-Open : goal.returns-in-Some-Open
+returns-in-Some-Open c = line_plays _ _ c.args.line.now (opens (opening_of c.in-Some-Open.plan)) _ _ (search rules) (c.from.ensures (items_of c.in-Some-Open.plan.numbers)) c.open.ensures
 
-pub returns-in-Start : goal.returns-in-Start
-returns-in-Start c = line_plays _ _ c.args.line.now (starts_board c.in-Start.board) _ _ c.in-Start.ensures.call refl c.start.ensures
+pub returns-in-Some-Start : goal.returns-in-Some-Start
+returns-in-Some-Start c = line_plays _ _ c.args.line.now (starts_board c.in-Some-Start.board) _ _ (search rules) refl
+    (c.on.ensures (starting c.in-Some-Start.board) (λ g h r e. search rules))
 
-pub returns-in-Carry : goal.returns-in-Carry
-returns-in-Carry c = line_plays _ _ c.args.line.now (carries c.in-Carry.to c.in-Carry.from c.in-Carry.kind c.in-Carry.value) _ _ c.in-Carry.ensures.call refl c.carry.ensures
+pub returns-in-Some-Carry : goal.returns-in-Some-Carry
+returns-in-Some-Carry c =
+    line_plays _ _ c.args.line.now (carries c.in-Some-Carry.to c.in-Some-Carry.from c.in-Some-Carry.kind c.in-Some-Carry.value) _ _ (search rules) refl
+    (c.on-in-Some-Carry.ensures (carrying c.in-Some-Carry.to c.in-Some-Carry.from c.in-Some-Carry.kind c.in-Some-Carry.value) (λ g h r e. search rules))
 
-pub returns-in-Forge : goal.returns-in-Forge
-returns-in-Forge c =
-    let place = c.in-Forge.place in
+pub returns-in-Some-Forge : goal.returns-in-Some-Forge
+returns-in-Some-Forge c =
     let line = c.args.line.now in
-    let all : take (length line - place) (drop place line) ≡ drop place line = take_all (length line - place) (drop place line) (omega (arith, length-drop place line)) in
-    line_plays _ _ line (forges c.in-Forge.to c.in-Forge.from (drop place line)) _ _ c.in-Forge.ensures.call refl
-    (subst (λ (bs : List ℕ). PlaysCall c.args.group.now (forges c.in-Forge.to c.in-Forge.from bs) c.forge.new.group c.forge.result) all c.forge.ensures)
+    let place = c.in-Some-Forge.place in
+    line_plays _ _ line (forges c.in-Some-Forge.to c.in-Some-Forge.from (drop place line)) _ _ (search rules) refl
+    (c.on-in-Some-Forge.ensures (forging c.in-Some-Forge.to c.in-Some-Forge.from (drop place line)) (λ g h r e. search (rules, take_rest)))

@@ -4,7 +4,7 @@ use Rattle.std.specs.List.{position}
 use Rattle.std.proofs.lemmas.List.{take_rest}
 use Rattle.numerals.specs.Numerals.{comma, number_in}
 use Rattle.lines.proofs.Forging.{no_comma, field_found}
-use Rattle.lines.proofs.forge.read_field.Goals as goal
+use Rattle.lines.proofs.field.read_field.Goals as goal
 
 pub returns-in_err-comma : goal.returns-in_err-comma
 returns-in_err-comma c =

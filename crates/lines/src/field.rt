@@ -1,0 +1,21 @@
+// A number that a comma ends.
+ghost use Rattle.std.specs.Prelude.{◌≡◌, position, ◌==◌};
+ghost use Rattle.std.specs.Option.{option_map};
+ghost use Rattle.numerals.specs.Numerals.{comma};
+ghost use Rattle.lines.specs.Parts.{field_in};
+
+use numerals::number;
+
+fn first_comma(bytes: &[u8]) -> Option<usize>
+    ensures { result ≡ position (λ b. b == comma) bytes.now }
+{
+    bytes.iter().position(|b| *b == b',')
+}
+
+// The number before the first comma, if the bytes begin so, and the bytes behind that comma.
+pub(crate) fn read_field(bytes: &[u8]) -> Option<(u16, &[u8])>
+    ensures { option_map (λ f. (f.0, f.1.now)) result ≡ field_in bytes.now }
+{
+    let comma = first_comma(bytes)?;
+    Some((number(&bytes[..comma])?, &bytes[comma + 1..]))
+}
