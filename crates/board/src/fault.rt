@@ -6,7 +6,7 @@ ghost use Rattle.board.specs.declared.fault.BoardFault.TheVariants.{Frame};
 use refusal::Refusal;
 use wire::FrameFault;
 
-#[derive(Clone, Copy, PartialEq, Debug)]
+#[derive(Clone, Copy, PartialEq, Eq, Debug)]
 pub enum BoardFault {
     // the rule's crew has not 1 to 16 boards
     Crew,
