@@ -1,8 +1,8 @@
 -- What a record that shows a history says of the words posted and the decision. Assumes nothing.
-use Rattle.std.proofs.Common.{◌≡◌, ℕ, zero, suc, ◌/◌, ◌%◌, ◌^◌, ◌<◌, ◌≤◌, Bool, false, ◌&&◌, ◌||◌, eqb, leb, List, None, Option, sym, refl, ap, ◌∙◌, arith}
-use Rattle.std.proofs.lemmas.Bool.{cond-true, cond-false, eq-eqb, ne_eqb, lt-leb}
+use Rattle.std.proofs.Common.{◌≡◌, ℕ, zero, suc, ◌<◌, ◌≤◌, Bool, false, ◌&&◌, ◌||◌, eqb, leb, List, Some, None, Option, sym, refl, ap, ◌∙◌, ⊎_elim, arith}
+use Rattle.std.proofs.lemmas.Bool.{cond-true, cond-false, eq-eqb, ne_eqb, lt-leb, cases_lt}
 use Rattle.quorum.specs.Sets.{member}
-use Rattle.quorum.specs.Members.{member_is, member_set_of}
+use Rattle.quorum.specs.Members.{member_set_of, member_beyond}
 use Rattle.vote.specs.declared.Depth.{Depth}
 use Rattle.vote.specs.declared.Depth.TheVariants.{One, Two}
 use Rattle.vote.specs.declared.Vote.{Vote}
@@ -10,7 +10,9 @@ use Rattle.vote.specs.History.{Seen, seen, ever}
 use Rattle.vote.specs.Search.{is}
 use Rattle.vote.specs.Setting.{Setting}
 use Rattle.agreement.specs.Echo.{echoes, found, said, echoed, decided, posts}
+use Rattle.vote.proofs.Options.{same_is}
 use Rattle.vote.proofs.Memories.{memo_none}
+use Rattle.std.specs.Option.{option_eq}
 use Rattle.echo_board.specs.declared.board.EchoRecord.{EchoRecord}
 use Rattle.echo_board.specs.Records.{record_of}
 
@@ -52,20 +54,19 @@ module _ (S : Setting) (s : ℕ) (h : List Vote) (o : EchoRecord) (e : o ≡ rec
   unfolding record_of
   decision_is = ap (λ (z : EchoRecord). z.decision) e
 
-  pub echo_posted : (c v : ℕ) → v ≤ 8 → c ≡ 1 → eqb ((o.echoed / 2 ^ v) % 2) 1 ≡ posts S s h c v
-  unfolding record_of posts
-  echo_posted c v l q =
-      sym (member_is v o.echoed) ∙ ap (λ (z : EchoRecord). member v z.echoed) e ∙ member_set_of 9 (echoed S s h) v (omega arith) ∙ sym (cond-true _ _ _ (eq-eqb c 1 q))
+  -- no value beyond 8 is echoed
+  pub echo_posted : (c v : ℕ) → s ≤ 8 → S.characters ≤ 8 → c ≡ 1 → member v o.echoed ≡ posts S s h c v
+  unfolding record_of posts echoed
+  echo_posted c v l k q =
+      ap (λ (z : EchoRecord). member v z.echoed) e ∙ ⊎_elim (λ (n : v < 9). member_set_of 9 (echoed S s h) v n) (λ (n : 9 ≤ v). member_beyond 9 (echoed S s h) v n ∙ none v n) (cases_lt v 9)
+      ∙ sym (cond-true _ _ _ (eq-eqb c 1 q))
+    where
+      neither : (a b d : Bool) → a ≡ false → b ≡ false → false ≡ (a || (b && d))
+      neither a b d p r = rw (p, r)
 
--- no value beyond 8 is echoed
-pub echo_none : (S : Setting) (s : ℕ) (h : List Vote) (c v : ℕ) → s ≤ 8 → S.characters ≤ 8 → 8 < v → c ≡ 1 → false ≡ posts S s h c v
-unfolding posts echoed
-echo_none S s h c v l k high q =
-    sym (cond-true _ _ _ (eq-eqb c 1 q) ∙ neither (eqb v s) (leb v S.characters) (ever (λ g. echoes S v (seen g)) h) (ne_eqb v s (omega arith)) (lt-leb v S.characters (omega arith)))
-  where
-    neither : (a b d : Bool) → a ≡ false → b ≡ false → (a || (b && d)) ≡ false
-    neither a b d p r = rw (p, r)
+      none : (v : ℕ) → 9 ≤ v → false ≡ echoed S s h v
+      none v n = neither (eqb v s) (leb v S.characters) (ever (λ g. echoes S v (seen g)) h) (ne_eqb v s (omega arith)) (lt-leb v S.characters (omega arith))
 
-pub word_posted : (S : Setting) (s : ℕ) (h : List Vote) (c v : ℕ) (r : Option ℕ) → r ≡ said S h c → (c ≡ 1 → ⊥) → is v r ≡ posts S s h c v
+pub word_posted : (S : Setting) (s : ℕ) (h : List Vote) (c v : ℕ) (r : Option ℕ) → r ≡ said S h c → (c ≡ 1 → ⊥) → option_eq eqb r (Some v) ≡ posts S s h c v
 unfolding posts
-word_posted S s h c v r p q = ap (is v) p ∙ sym (cond-false _ _ _ (ne_eqb c 1 q))
+word_posted S s h c v r p q = same_is v r ∙ ap (is v) p ∙ sym (cond-false _ _ _ (ne_eqb c 1 q))

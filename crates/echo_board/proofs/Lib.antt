@@ -1,4 +1,5 @@
 pub mod Starts
+pub mod Quiet
 pub mod Memory
 pub mod Fields
 pub mod Answered

@@ -14,6 +14,7 @@ use Rattle.vote.specs.News.{values, newly, news_of}
 use Rattle.vote.proofs.Options.{holds_one}
 use Rattle.vote.proofs.Seeking.{set_of_none}
 use Rattle.echo_board.specs.Laws.{words_in}
+use Rattle.echo_board.proofs.Quiet.{at_first}
 use Rattle.echo_board.proofs.Stays.{word_said}
 
 -- ---- how many a set has
@@ -78,14 +79,9 @@ or_without true c p = refl
 or_without false c p = p
 
 module _ (S : Setting) (nobody : S.rule.fails 0 ≡ true) (start : ℕ) (w : Vote) where
-  -- no set of senders is strong before anything is counted
-  at_first : (v : ℕ) → strong_by S.rule (counted [] 1 v) ≡ false
-  unfolding counted strong
-  at_first v = ap (λ (s : ℕ). not (S.rule.fails s)) (set_of_none S.rule.crew) ∙ not_from_true _ nobody
-
   weak_before : (h : List Vote) (v : ℕ) → ever (λ g. echoes S v (seen g)) h ≡ false → strong_by S.rule (counted h 1 v) ≡ false
   unfolding ever echoes
-  weak_before [] v p = at_first v
+  weak_before [] v p = at_first S nobody v
   weak_before (u ∷ h) v p = (or_parts (strong_by S.rule (counted (u ∷ h) 1 v)) _ (or_parts (ever (λ g. echoes S v (seen g)) h) _ p).1).0
 
   other_same : (h : List Vote) (v : ℕ) → (w.value ≡ v → ⊥) → strong_by S.rule (counted (w ∷ h) 1 v) ≡ strong_by S.rule (counted h 1 v)

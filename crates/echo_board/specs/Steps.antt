@@ -1,5 +1,5 @@
 -- One step on a record, as the code takes it: what the tests find now, what is kept of it, and what is new. Assumes nothing.
-use Rattle.std.specs.Prelude.{ℕ, ◌-◌, not, ◌&&◌, [], ◌∷◌, Option, bit_and, bit_or, nat_le}
+use Rattle.std.specs.Prelude.{ℕ, ◌-◌, cond, not, ◌&&◌, [], ◌∷◌, Option, ◌==◌, bit_and, bit_or, nat_le}
 use Rattle.vote.specs.declared.News.{News}
 use Rattle.vote.specs.History.{Seen}
 use Rattle.vote.specs.Search.{or_else, is}
@@ -19,6 +19,17 @@ findings_of S x = record {
   fourth = found S S.depth 4 x;
   fifth = found S S.depth 5 x;
   decision = verdict S S.depth x;
+}
+
+-- What is made of the tests once a vote of kind c is counted: what the record o holds, and otherwise what is found; only an echo can make an echo due.
+abbrev pub completing : ℕ → EchoRecord → Findings → Findings
+completing c o f = record {
+  echoes = cond (c == 1) f.echoes 0;
+  second = or_else o.second f.second;
+  third = or_else o.third f.third;
+  fourth = or_else o.fourth f.fourth;
+  fifth = or_else o.fifth f.fifth;
+  decision = or_else o.decision f.decision;
 }
 
 -- the record o with other votes counted

@@ -8,11 +8,11 @@ ghost use Rattle.heard.specs.Shown.{setting};
 ghost use Rattle.quorum.specs.Limits.{max_crew};
 ghost use Rattle.vote.specs.Setting.{Setting};
 
-use crate::findings::{Findings, find};
+use crate::findings::Findings;
 use crate::news::fresh;
 use heard::Heard;
 use quorum::FailureRule;
-use vote::{Decision, Depth, News, Vote};
+use vote::{Decision, News, Vote, Voting};
 
 // What a board has counted, the values that it has echoed, as a set, its words of the kinds 2 to 5, and its decision.
 #[derive(Clone, Copy)]
@@ -76,25 +76,19 @@ impl EchoRecord {
     }
 
     // Counts the vote, unless it is counted already (None), makes the seven tests, and says what is newly posted. The tests go on after the decision.
-    pub fn count<R: FailureRule>(
-        &mut self,
-        rule: &R,
-        characters: u8,
-        depth: Depth,
-        vote: Vote,
-    ) -> Option<News>
-        requires crew { (R.meaning rule.now).crew ≤ max_crew }
-        requires sender { vote.sender < (R.meaning rule.now).crew }
+    pub fn count<R: FailureRule>(&mut self, voting: &Voting<R>, vote: Vote) -> Option<News>
+        requires crew { (R.meaning voting.now.rule.now).crew ≤ max_crew }
+        requires sender { vote.sender < (R.meaning voting.now.rule.now).crew }
         requires kind { (1 ≤ vote.kind) × (vote.kind ≤ max_kind) }
-        requires value { (vote.value ≤ characters) × (characters ≤ max_characters) }
-        ensures counts { Counts (setting (R.meaning rule.now) characters depth) vote self.old self.new result }
-        ensures keeps { EchoBoardKeeps (setting (R.meaning rule.now) characters depth) }
+        requires value { vote.value ≤ voting.now.characters }
+        ensures counts { Counts (setting (R.meaning voting.now.rule.now) voting.now.characters voting.now.depth) vote self.old self.new result }
+        ensures keeps { EchoBoardKeeps (setting (R.meaning voting.now.rule.now) voting.now.characters voting.now.depth) }
     {
         if self.heard.repeats(vote) {
             return None;
         }
         self.heard.note(vote);
-        let found = find(&self.heard, rule, characters, depth);
+        let found = self.find(voting, vote.kind);
         Some(self.remember(found))
     }
 }

@@ -1,13 +1,13 @@
-// What the seven tests make of what is counted now, whatever was found before.
-ghost use Rattle.std.specs.Prelude.{◌≡◌, ◌≤◌};
-ghost use Rattle.echo_board.specs.Steps.{findings_of};
-ghost use Rattle.heard.specs.Limits.{max_characters};
+// What the record holds of the seven tests, and what those that it has no answer of find now.
+ghost use Rattle.std.specs.Prelude.{◌≡◌, Some, MatchOption};
+ghost use Rattle.echo_board.specs.Steps.{completing, findings_of};
 ghost use Rattle.heard.specs.Shown.{heard_of, setting};
 ghost use Rattle.vote.specs.History.{Seen};
 
-use heard::{Heard, decision};
+use crate::board::EchoRecord;
+use heard::decision;
 use quorum::FailureRule;
-use vote::{Decision, Depth};
+use vote::{Decision, Depth, ECHO, Voting};
 
 // The values to echo, as a set, the values of the kinds 2 to 5, and the decision.
 #[derive(Clone, Copy)]
@@ -20,40 +20,48 @@ pub(crate) struct Findings {
     pub(crate) decision: Option<Decision>,
 }
 
-// Makes the seven tests; at depth 1 the outcome decides, and there are no kinds 4 and 5.
-pub(crate) fn find<R: FailureRule>(
-    heard: &Heard,
-    rule: &R,
-    characters: u8,
-    depth: Depth,
-) -> Findings
-    requires { characters ≤ max_characters }
-    ensures { (x : Seen) → heard.now ≡ heard_of (R.meaning rule.now).crew x → result ≡ findings_of (setting (R.meaning rule.now) characters depth) x }
+// What is held, or else what is found. `or_else` tells a caller nothing of a test under a rule: it takes the closure as an FnOnce.
+fn held_or<T, F: Fn() -> Option<T>>(held: Option<T>, find: F) -> Option<T>
+    requires { F.pre find }
+    ensures { MatchOption held (F.post find result) (λ x. result ≡ Some x) }
 {
-    let echoes = heard.echoes(rule, characters);
-    let second = heard.second(rule, characters);
-    let third = heard.third(rule, characters);
-    let outcome = heard.outcome(rule, characters);
-    match depth {
-        Depth::One => Findings {
-            echoes,
-            second,
-            third,
-            fourth: None,
-            fifth: None,
-            decision: decision(1, outcome),
-        },
-        Depth::Two => {
-            let fifth = heard.fifth(rule, characters);
-            let decision = heard.verdict(rule, characters);
-            Findings {
+    match held {
+        None => find(),
+        held => held,
+    }
+}
+
+impl EchoRecord {
+    // Makes the tests of which there is no answer yet, once a vote of the kind is counted: only an echo can make an echo due.
+    // At depth 1 the outcome decides, and there are no kinds 4 and 5.
+    pub(crate) fn find<R: FailureRule>(&self, voting: &Voting<R>, kind: u8) -> Findings
+        ensures { (x : Seen) → self.now.heard ≡ heard_of (R.meaning voting.now.rule.now).crew x → result ≡ completing kind self.now (findings_of (setting (R.meaning voting.now.rule.now) voting.now.characters voting.now.depth) x) }
+    {
+        let heard = &self.heard;
+        let echoes = if kind == ECHO {
+            heard.echoes(voting)
+        } else {
+            0
+        };
+        let second = held_or(self.second, || heard.second(voting));
+        let third = held_or(self.third, || heard.third(voting));
+        match voting.depth {
+            Depth::One => Findings {
                 echoes,
                 second,
                 third,
-                fourth: outcome,
-                fifth,
-                decision,
-            }
+                fourth: self.fourth,
+                fifth: self.fifth,
+                decision: held_or(self.decision, || decision(1, heard.outcome(voting))),
+            },
+            Depth::Two => Findings {
+                echoes,
+                second,
+                third,
+                fourth: held_or(self.fourth, || heard.outcome(voting)),
+                fifth: held_or(self.fifth, || heard.fifth(voting)),
+                decision: held_or(self.decision, || heard.verdict(voting)),
+            },
         }
     }
 }

@@ -1,14 +1,13 @@
 // Words as sets of values: value v adds 2 to the power v.
 ghost use Rattle.std.specs.Prelude.{◌≡◌, ◌≤◌};
 ghost use Rattle.echo_board.specs.Steps.{fresh as fresh_of};
-ghost use Rattle.heard.specs.Limits.{max_characters};
+ghost use Rattle.vote.specs.Limits.{max_characters};
 ghost use Rattle.agreement.specs.Echo.{echo};
 ghost use Rattle.vote.specs.News.{values, first_news};
 ghost use Rattle.vote.specs.Search.{is};
 ghost use Rattle.vote.specs.Setting.{Setting};
 
-use heard::MAX_CHARACTERS;
-use vote::News;
+use vote::{MAX_CHARACTERS, News};
 
 // The value that the word bears, if there is one.
 fn value_set(word: Option<u8>) -> u16

@@ -3,26 +3,12 @@ ghost use Rattle.std.specs.Prelude.{◌≡◌, ℕ, ◌≤◌, List, ◌≢◌};
 ghost use Rattle.echo_board.specs.Records.{record_of};
 ghost use Rattle.heard.specs.Limits.{max_characters};
 ghost use Rattle.agreement.specs.Echo.{posts, said as said_by, decided as decided_by};
-ghost use Rattle.vote.specs.Search.{is};
 ghost use Rattle.vote.specs.Setting.{Setting};
 ghost use Rattle.vote.specs.declared.Vote.{Vote};
 
 use crate::board::EchoRecord;
-use heard::MAX_CHARACTERS;
-use vote::Decision;
-
-// The kind of an echo.
-const ECHO: u8 = 1;
-
-// Whether the word is there and bears the value.
-fn bears(word: Option<u8>, value: u8) -> bool
-    ensures { result ≡ is value word }
-{
-    match word {
-        None => false,
-        Some(v) => value == v,
-    }
-}
+use quorum::has;
+use vote::{Decision, ECHO};
 
 impl EchoRecord {
     // What is decided, if anything is.
@@ -49,12 +35,10 @@ impl EchoRecord {
     pub fn has_posted(&self, kind: u8, value: u8) -> bool
         ensures { (S : Setting) (start : ℕ) (h : List Vote) → start ≤ max_characters → S.characters ≤ max_characters → self.now ≡ record_of S start h → result ≡ posts S start h kind value }
     {
-        if kind != ECHO {
-            return bears(self.said(kind), value);
+        if kind == ECHO {
+            has(self.echoed, value)
+        } else {
+            self.said(kind) == Some(value)
         }
-        if value > MAX_CHARACTERS {
-            return false;
-        }
-        (self.echoed >> value) % 2 == 1
     }
 }

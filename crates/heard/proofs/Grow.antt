@@ -1,5 +1,5 @@
 -- Sets of senders that show a history show it with one vote more, once that is noted. Assumes nothing.
-use Rattle.std.proofs.Common.{◌≡◌, ℕ, suc, ◌-◌, ◌^◌, ◌<◌, ◌≤◌, Bool, true, false, cond, ◌&&◌, ◌||◌, eqb, List, [], ◌∷◌, length, get_or, set, replicate, Option, sym, refl, ap, ◌∙◌, ap₂, ⊎_elim, arith, length-set}
+use Rattle.std.proofs.Common.{◌≡◌, ℕ, suc, ◌-◌, ◌^◌, ◌<◌, ◌≤◌, Bool, true, false, cond, ◌&&◌, ◌||◌, eqb, List, [], ◌∷◌, length, get_or, set, replicate, None, Option, sym, refl, ap, ◌∙◌, ap₂, ⊎_elim, arith, length-set}
 use mathlib.Core.Path.{fun_ext}
 use mathlib.Core.Bool.{and-true, and-false, or-false}
 use lib.Bits.{bit_or}
@@ -64,9 +64,13 @@ tally_more n f v j low h = ⊎_elim old new (cases_Bool (given (f j)))
         (λ i. is_else_same (f i) (eqb j i) v (fresh q i)) (λ u i ne. is_else_other (f i) (eqb j i) u v ne (fresh q i)))
         (sym (set_of_insert n (λ i. given (f i)) j h) ∙ sym (set_of_ext n _ _ (λ i l. given_else_when (f i) (eqb j i) v)))
 
-pub nothing_is : (n : ℕ) → record { echoes = replicate 9 0; first = replicate 5 record { values = replicate 9 0; all = 0 } } ≡ heard_of n (seen [])
-unfolding heard_of tally_of counted first
-nothing_is n = rw (set_of_none n)
+pub nobody_is : (n : ℕ) → record { values = replicate 9 0; all = 0 } ≡ tally_of n (λ i. None)
+unfolding tally_of
+nobody_is n = rw (set_of_none n)
+
+pub nothing_is : (n : ℕ) (t : Tally) → t ≡ tally_of n (λ i. None) → record { echoes = replicate 9 0; first = replicate 5 t } ≡ heard_of n (seen [])
+unfolding heard_of counted first
+nothing_is n t e = rw (set_of_none n, e)
 
 -- ---- the vote w is counted after h
 module _ (n : ℕ) (h : List Vote) (w : Vote) (within : w.sender < n) (low : w.value ≤ 8) (kind1 : 1 ≤ w.kind) (kind5 : w.kind ≤ 5) where

@@ -3,19 +3,23 @@ use Rattle.std.proofs.Common.{◌≡◌, ℕ, zero, suc, ◌-◌, ◌<◌, ◌�
 use mir.Val.{bool_byte}
 use lib.Bits.{bit_or, bit_and}
 use lib.Dec.{leb-zero}
-use Rattle.std.proofs.lemmas.Bool.{ne_eqb, le-leb, cases_eq}
+use Rattle.std.proofs.lemmas.Bool.{false≢true, and_right, ne_eqb, le-leb, cases_eq}
 use Rattle.quorum.specs.Sets.{set_of}
 use Rattle.quorum.specs.Rules.{Rule, strong, ample, strong_by, ample_by}
+use Rattle.quorum.specs.Facts.{AmpleSetsShare}
+use Rattle.quorum.specs.Members.{member_set_of}
+use Rattle.quorum.specs.Truth.{false_since}
 use Rattle.quorum.proofs.Masks.{set_of_ext, set_of_or, set_of_minus}
 use Rattle.vote.specs.History.{Seen, says, speaks}
 use Rattle.vote.specs.Search.{seek, all_below, some_below, given, is}
 use Rattle.agreement.specs.Echo.{other}
 use Rattle.vote.specs.News.{values}
-use Rattle.vote.proofs.Seeking.{seek_ext, some_in}
+use Rattle.vote.proofs.Seeking.{nothing_below, seek_ext, some_in}
+use Rattle.heard.specs.declared.tally.Tally.{Tally}
 use Rattle.heard.specs.declared.counted.Heard.{Heard}
-use Rattle.heard.specs.Shown.{heard_of}
+use Rattle.heard.specs.Shown.{heard_of, tally_of}
 use Rattle.heard.specs.Masks.{beyond, others, ample_from, backed_in}
-use Rattle.heard.proofs.Read.{echo_at, value_at, all_at}
+use Rattle.heard.proofs.Read.{tally_all, tally_value, echo_at, value_at, all_at}
 
 other_is : (u : ℕ) (a : Option ℕ) → (given a && not (is u a)) ≡ other u a
 other_is u None = refl
@@ -31,12 +35,25 @@ from_one : (v : ℕ) → leb 1 v ≡ not (eqb v 0)
 from_one zero = refl
 from_one (suc v) = le-leb 1 (suc v) (omega arith) ∙ sym (ap not (ne_eqb (suc v) 0 (omega arith)))
 
+-- ---- the senders of a value are some of all, so where all are not ample, they are not
+module _ (R : Rule) (k : ℕ) (low : k ≤ 8) (from : ℕ) (f : ℕ → Option ℕ) (t : Tally) (e : t ≡ tally_of R.crew f) where
+  pub shared_is : seek (suc k) (ample_from R t.values from) ≡ seek (suc k) (λ v. leb from v && ample_by R (λ i. is v (f i)))
+  shared_is = seek_ext (suc k) _ _ (λ v h. ap (λ (s : ℕ). leb from v && ample R s) (tally_value R.crew f t e v (omega arith)))
+
+  pub none_shared : AmpleSetsShare R → ample R t.all ≡ false → None ≡ seek (suc k) (λ v. leb from v && ample_by R (λ i. is v (f i)))
+  unfolding AmpleSetsShare
+  none_shared facts few =
+      sym (nothing_below (suc k) _ (λ v h. and_right (leb from v) _ (false_since (ample_by R (λ i. is v (f i))) _
+      (facts.grows _ _ (λ i l q. member_set_of R.crew (λ i. given (f i)) i l ∙ borne v (f i) (sym (member_set_of R.crew (λ i. is v (f i)) i l) ∙ q)))
+      (ap (ample R) (sym (tally_all R.crew f t e)) ∙ few))))
+    where
+      borne : (v : ℕ) (o : Option ℕ) → is v o ≡ true → given o ≡ true
+      borne v None q = absurd (false≢true q)
+      borne v (Some u) q = refl
+
 module _ (R : Rule) (k : ℕ) (low : k ≤ 8) (o : Heard) (x : Seen) (e : o ≡ heard_of R.crew x) where
   pub ample_echo : (v : ℕ) → v ≤ 8 → ample R (get_or o.echoes v 0) ≡ ample_by R (x.echo v)
   ample_echo v h = ap (ample R) (echo_at R.crew o x e v h)
-
-  pub ample_value : (j v : ℕ) → j < 5 → v ≤ 8 → ample R (get_or (get_or o.first j beyond).values v 0) ≡ ample_by R (says x (suc j) v)
-  ample_value j v h l = ap (ample R) (value_at R.crew o x e j v h l)
 
   pub ample_all : (j : ℕ) → j < 5 → ample R (get_or o.first j beyond).all ≡ ample_by R (speaks x (suc j))
   ample_all j h = ap (ample R) (all_at R.crew o x e j h)
@@ -47,11 +64,11 @@ module _ (R : Rule) (k : ℕ) (low : k ≤ 8) (o : Heard) (x : Seen) (e : o ≡ 
   pub lowest_approved : seek (suc k) (ample_from R o.echoes 0) ≡ seek (suc k) (λ v. ample_by R (x.echo v))
   lowest_approved = lowest_echo 0 ∙ seek_ext (suc k) _ _ (λ v h. rw (leb-zero v))
 
-  pub lowest_value : (j : ℕ) → j < 5 → seek (suc k) (ample_from R (get_or o.first j beyond).values 0) ≡ seek (suc k) (λ v. ample_by R (says x (suc j) v))
-  lowest_value j l = seek_ext (suc k) _ _ (λ v h. rw (leb-zero v) (ample_value j v l (omega arith)))
+  pub shared_value : (c : ℕ) → seek (suc k) (λ v. leb 0 v && ample_by R (says x c v)) ≡ seek (suc k) (λ v. ample_by R (says x c v))
+  shared_value c = seek_ext (suc k) _ _ (λ v h. rw (leb-zero v))
 
-  pub lowest_character : (j : ℕ) → j < 5 → seek (suc k) (ample_from R (get_or o.first j beyond).values 1) ≡ seek (suc k) (λ v. not (eqb v 0) && ample_by R (says x (suc j) v))
-  lowest_character j l = seek_ext (suc k) _ _ (λ v h. ap₂ (λ (a b : Bool). a && b) (from_one v) (ample_value j v l (omega arith)))
+  pub shared_character : (c : ℕ) → seek (suc k) (λ v. leb 1 v && ample_by R (says x c v)) ≡ seek (suc k) (λ v. not (eqb v 0) && ample_by R (says x c v))
+  shared_character c = seek_ext (suc k) _ _ (λ v h. ap (λ (a : Bool). a && ample_by R (says x c v)) (from_one v))
 
   pub parted_is : all_below (suc k) (λ u. strong R (others (get_or o.first 0 beyond) u)) ≡ all_below (suc k) (λ u. strong_by R (λ i. other u (x.first 1 i)))
   parted_is = ap (λ s. not (given s)) (seek_ext (suc k) _ _ (λ u h. ap not (at u (omega arith))))

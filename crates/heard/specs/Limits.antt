@@ -1,15 +1,8 @@
--- The sizes of what a board counts, each named once, and the votes that they allow. Assumes nothing.
-use Rattle.std.specs.Prelude.{ℕ, ◌<◌, ◌≤◌}
+-- The votes that the sizes of a vote allow. Assumes nothing.
+use Rattle.std.specs.Prelude.{◌<◌, ◌≤◌}
 use Rattle.quorum.specs.Limits.{max_crew}
 use Rattle.vote.specs.declared.Vote.{Vote}
-
--- the most characters; the values are 0 to these
-abbrev pub max_characters : ℕ
-max_characters = 8
-
--- the kinds are 1 to this
-abbrev pub max_kind : ℕ
-max_kind = 5
+pub use Rattle.vote.specs.Limits.{max_characters, max_kind}
 
 -- numbers that a vote can have, whatever the crew, the characters and the depth
 abbrev pub InRange : Vote → Type 0

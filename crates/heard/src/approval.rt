@@ -1,30 +1,39 @@
 // Which values are approved: those with ample echo senders.
-ghost use Rattle.std.specs.Prelude.{◌≤◌};
-ghost use Rattle.heard.specs.Limits.{max_characters};
+ghost use Rattle.std.specs.Prelude.{◌≤◌, ◌&&◌};
 ghost use Rattle.heard.specs.Shown.{Makes};
 ghost use Rattle.agreement.specs.Echo.{two_approved, mixed as is_mixed};
+ghost use Rattle.quorum.specs.Rules.{ample_by};
+ghost use Rattle.vote.specs.History.{speaks};
+ghost use Rattle.vote.specs.Limits.{max_kind};
 
 use crate::counted::Heard;
 use crate::search::lowest_ample;
 use quorum::{FailureRule, ample};
+use vote::Voting;
 
 impl Heard {
     // Whether two values are approved.
-    pub(crate) fn two_approved<R: FailureRule>(&self, rule: &R, characters: u8) -> bool
-        requires { characters ≤ max_characters }
-        ensures { Makes (R.meaning rule.now) characters two_approved self.now result }
+    pub(crate) fn two_approved<R: FailureRule>(&self, voting: &Voting<R>) -> bool
+        ensures { Makes (R.meaning voting.now.rule.now) voting.now.characters two_approved self.now result }
     {
-        match lowest_ample(rule, self.echoes, characters, 0) {
+        match lowest_ample(voting, &self.echoes, 0) {
             None => false,
-            Some(u) => lowest_ample(rule, self.echoes, characters, u + 1).is_some(),
+            Some(u) => lowest_ample(voting, &self.echoes, u + 1).is_some(),
         }
     }
 
     // Whether 0 is approved, or any two values are.
-    pub(crate) fn mixed<R: FailureRule>(&self, rule: &R, characters: u8) -> bool
-        requires { characters ≤ max_characters }
-        ensures { Makes (R.meaning rule.now) characters is_mixed self.now result }
+    pub(crate) fn mixed<R: FailureRule>(&self, voting: &Voting<R>) -> bool
+        ensures { Makes (R.meaning voting.now.rule.now) voting.now.characters is_mixed self.now result }
     {
-        ample(rule, self.echoes[0]) | self.two_approved(rule, characters)
+        ample(voting.rule, self.echoes[0]) || self.two_approved(voting)
+    }
+
+    // Whether it is mixed, and all senders of the kind are ample.
+    pub(crate) fn late<R: FailureRule>(&self, voting: &Voting<R>, kind: u8) -> bool
+        requires { (1 ≤ kind) × (kind ≤ max_kind) }
+        ensures { Makes (R.meaning voting.now.rule.now) voting.now.characters (λ S x. is_mixed S x && ample_by S.rule (speaks x kind)) self.now result }
+    {
+        ample(voting.rule, self.first[kind as usize - 1].all) && self.mixed(voting)
     }
 }

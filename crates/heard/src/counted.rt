@@ -7,12 +7,9 @@ ghost use Rattle.heard.specs.Shown.{heard_of};
 ghost use Rattle.vote.specs.History.{seen};
 ghost use Rattle.vote.specs.declared.Vote.{Vote};
 
-use crate::limits::{KINDS, VALUES};
-use crate::tally::{Tally, has};
-use vote::Vote;
-
-// The kind of an echo.
-const ECHO: u8 = 1;
+use crate::tally::Tally;
+use quorum::has;
+use vote::{ECHO, KINDS, VALUES, Vote};
 
 // An echo counts once for each sender and value, so its senders are kept beside the openings, which are the first votes of kind 1.
 #[derive(Clone, Copy)]
@@ -26,13 +23,9 @@ impl Heard {
     pub fn start() -> Heard
         ensures { (n : ℕ) → result ≡ heard_of n (seen []) }
     {
-        let none = Tally {
-            values: [0; VALUES],
-            all: 0,
-        };
         Heard {
             echoes: [0; VALUES],
-            first: [none; KINDS],
+            first: [Tally::empty(); KINDS],
         }
     }
 

@@ -8,13 +8,12 @@
 
 pub mod approval;
 pub mod counted;
-pub mod limits;
 pub mod search;
 pub mod tally;
 pub mod verdict;
 pub mod words;
 
 pub use counted::Heard;
-pub use limits::{KINDS, MAX_CHARACTERS, VALUES};
 pub use tally::Tally;
 pub use verdict::decision;
+pub use vote::{KINDS, MAX_CHARACTERS, VALUES};

@@ -1,42 +1,47 @@
 // What a look through the values, 0 too, finds in their sets of senders.
-ghost use Rattle.std.specs.Prelude.{◌≡◌, suc, ◌≤◌, ◌&&◌, nat_le, slice_index};
-ghost use Rattle.heard.specs.Limits.{max_characters};
+ghost use Rattle.std.specs.Prelude.{◌≡◌, ℕ, suc, ◌&&◌, Option, nat_le, slice_index};
 ghost use Rattle.heard.specs.Masks.{others as others_of, ample_from, backed_in};
-ghost use Rattle.quorum.specs.Rules.{strong as is_strong};
+ghost use Rattle.heard.specs.Shown.{tally_of};
+ghost use Rattle.quorum.specs.Rules.{strong as is_strong, ample_by};
 ghost use Rattle.vote.specs.News.{values};
-ghost use Rattle.vote.specs.Search.{seek, all_below};
+ghost use Rattle.vote.specs.Search.{is, seek, all_below};
 
-use crate::limits::VALUES;
 use crate::tally::Tally;
 use quorum::{FailureRule, ample, strong};
+use vote::{VALUES, Voting};
 
 // The lowest value from `from` on whose senders are ample.
 pub(crate) fn lowest_ample<R: FailureRule>(
-    rule: &R,
-    senders: [u16; VALUES],
-    characters: u8,
+    voting: &Voting<R>,
+    senders: &[u16; VALUES],
     from: u8,
 ) -> Option<u8>
-    requires { characters ≤ max_characters }
-    ensures { result ≡ seek (suc characters) (ample_from (R.meaning rule.now) senders from) }
+    ensures { result ≡ seek (suc voting.now.characters) (ample_from (R.meaning voting.now.rule.now) senders.now from) }
 {
-    for v in 0..characters + 1 {
-        let passes = (from <= v) & ample(rule, senders[v as usize]);
-        if passes {
-            return Some(v);
-        }
+    voting.lowest(|v| from <= v && ample(voting.rule, senders[v as usize]))
+}
+
+// The lowest value from `from` on for which ample senders voted first. Where all senders are not ample, those of no value are.
+pub(crate) fn lowest_shared<R: FailureRule>(
+    voting: &Voting<R>,
+    tally: &Tally,
+    from: u8,
+) -> Option<u8>
+    ensures { (f : ℕ → Option ℕ) → tally.now ≡ tally_of (R.meaning voting.now.rule.now).crew f → result ≡ seek (suc voting.now.characters) (λ v. nat_le from v && ample_by (R.meaning voting.now.rule.now) (λ i. is v (f i))) }
+{
+    if !ample(voting.rule, tally.all) {
+        return None;
     }
-    None
+    lowest_ample(voting, &tally.values, from)
 }
 
 // The values whose senders are strong, as a set.
-pub(crate) fn strong_values<R: FailureRule>(rule: &R, senders: [u16; VALUES], characters: u8) -> u16
-    requires { characters ≤ max_characters }
-    ensures { result ≡ values (λ v. nat_le v characters && is_strong (R.meaning rule.now) (slice_index senders v)) }
+pub(crate) fn strong_values<R: FailureRule>(voting: &Voting<R>, senders: &[u16; VALUES]) -> u16
+    ensures { result ≡ values (λ v. nat_le v voting.now.characters && is_strong (R.meaning voting.now.rule.now) (slice_index senders.now v)) }
 {
     let mut found: u16 = 0;
-    for v in 0..characters + 1 {
-        if strong(rule, senders[v as usize]) {
+    for v in 0..voting.characters + 1 {
+        if strong(voting.rule, senders[v as usize]) {
             found |= 1 << v;
         }
     }
@@ -44,34 +49,19 @@ pub(crate) fn strong_values<R: FailureRule>(rule: &R, senders: [u16; VALUES], ch
 }
 
 // Whether for each value the senders whose opening is another are strong.
-pub(crate) fn parted_among<R: FailureRule>(rule: &R, openings: Tally, characters: u8) -> bool
-    requires { characters ≤ max_characters }
-    ensures { result ≡ all_below (suc characters) (λ u. is_strong (R.meaning rule.now) (others_of openings u)) }
+pub(crate) fn parted_among<R: FailureRule>(voting: &Voting<R>, openings: &Tally) -> bool
+    ensures { result ≡ all_below (suc voting.now.characters) (λ u. is_strong (R.meaning voting.now.rule.now) (others_of openings.now u)) }
 {
-    for u in 0..characters + 1 {
-        let others = openings.all - (openings.all & openings.values[u as usize]);
-        if !strong(rule, others) {
-            return false;
-        }
-    }
-    true
+    voting.lowest(|u| !strong(voting.rule, openings.others(u))).is_none()
 }
 
 // The lowest character with a sender in `fifth` and strong senders in `fourth`.
 pub(crate) fn lowest_backed<R: FailureRule>(
-    rule: &R,
-    fourth: [u16; VALUES],
-    fifth: [u16; VALUES],
-    characters: u8,
+    voting: &Voting<R>,
+    fourth: &[u16; VALUES],
+    fifth: &[u16; VALUES],
 ) -> Option<u8>
-    requires { characters ≤ max_characters }
-    ensures { result ≡ seek (suc characters) (backed_in (R.meaning rule.now) fourth fifth) }
+    ensures { result ≡ seek (suc voting.now.characters) (backed_in (R.meaning voting.now.rule.now) fourth.now fifth.now) }
 {
-    for w in 0..characters + 1 {
-        let passes = (w != 0) & (fifth[w as usize] != 0) & strong(rule, fourth[w as usize]);
-        if passes {
-            return Some(w);
-        }
-    }
-    None
+    voting.lowest(|w| w != 0 && fifth[w as usize] != 0 && strong(voting.rule, fourth[w as usize]))
 }

@@ -12,7 +12,7 @@ use Rattle.vote.specs.Setting.{Setting, grades, decision_on, lowest}
 use Rattle.agreement.specs.Plain.{all_say, some_says, compared, decided}
 use Rattle.plain_board.specs.Read.{verdict_on}
 use Rattle.plain_board.proofs.Memory.{branch_low, decided_when}
-use Rattle.plain_board.proofs.Search.{seek_found}
+use Rattle.vote.proofs.Seeking.{seek_found}
 
 module _ (S : Setting) where
   abbrev FitsIn : Depth → Decision → Type 0

@@ -1,4 +1,3 @@
-pub mod Search
 pub mod Masks
 pub mod Tallies
 pub mod Reading

@@ -15,8 +15,9 @@ use Rattle.vote.specs.Search.{or_else, when, given, seek}
 use Rattle.vote.specs.Setting.{Setting, decision_on, lowest}
 use Rattle.agreement.specs.Plain.{all_say, some_says, branch_found, branch, compared, decision_found, decided}
 use Rattle.plain_board.specs.Read.{common_of, verdict_on}
-use Rattle.plain_board.proofs.Search.{else_cases, seek_found}
-use Rattle.plain_board.proofs.Masks.{set_of_none}
+use Rattle.vote.proofs.Options.{else_cases}
+use Rattle.vote.proofs.Seeking.{set_of_none}
+use Rattle.plain_board.proofs.Reading.{found_low}
 use Rattle.plain_board.proofs.Tallies.{first_other}
 
 -- ---- options
@@ -120,11 +121,7 @@ module _ (S : Setting) where
   -- a branch is a character or 0
   pub common_low : (x : Seen) (c : ℕ) → common_of S x c ≤ S.characters
   unfolding common_of lowest
-  common_low x c = low_value (seek (suc S.characters) (λ v. not (eqb v 0) && all_say S x c v)) (λ v e. let k = (seek_found (suc S.characters) _ v e).0 in omega arith)
-    where
-      low_value : (o : Option ℕ) → ((v : ℕ) → o ≡ Some v → v ≤ S.characters) → unwrap_or o 0 ≤ S.characters
-      low_value None f = zero-le
-      low_value (Some v) f = f v refl
+  common_low x c = found_low S.characters _ _ refl
 
   pub branch_low : (h : List Vote) (b : ℕ) → branch S h ≡ Some b → b ≤ S.characters
   branch_low [] b e = absurd (false≢true (sym (ap given none_at_first) ∙ ap given e))

@@ -12,7 +12,7 @@ use Rattle.vote.specs.News.{news_of}
 use Rattle.plain_board.specs.declared.record.PlainRecord.{PlainRecord}
 use Rattle.plain_board.specs.declared.stage.Stage.{Stage}
 use Rattle.plain_board.specs.declared.stage.Stage.TheVariants.{Gathering, Comparing, Decided}
-use Rattle.plain_board.specs.declared.tally.Tally.{Tally}
+use Rattle.heard.specs.declared.tally.Tally.{Tally}
 use Rattle.plain_board.specs.Shown.{stage_of, tally_of, record_of}
 use Rattle.plain_board.specs.Read.{common_of, Reads, StageOn}
 use Rattle.plain_board.specs.Step.{repeats, taken, answer_of, Adds, no_news, branch_news}

@@ -12,7 +12,7 @@ use Rattle.vote.specs.Setting.{Setting}
 use Rattle.agreement.specs.Plain.{branch, branch_posted, posts, plain}
 use Rattle.vote.specs.News.{values, news_of}
 use Rattle.plain_board.specs.Step.{no_news, branch_news}
-use Rattle.plain_board.proofs.Masks.{set_of_none}
+use Rattle.vote.proofs.Seeking.{set_of_none}
 
 -- kind 2 alone can be new
 abbrev with_second : ℕ → News

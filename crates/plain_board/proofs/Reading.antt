@@ -1,5 +1,5 @@
 -- What the sets of a tally say of the votes that it shows. Assumes nothing.
-use Rattle.std.proofs.Common.{◌≡◌, ℕ, zero, suc, ◌≤◌, Bool, true, cond, not, ◌&&◌, eqb, get_or, Some, None, Option, unwrap_or, sym, refl, ap, ◌∙◌, ap₂, arith}
+use Rattle.std.proofs.Common.{◌≡◌, ℕ, zero, suc, ◌≤◌, Bool, true, cond, not, ◌&&◌, eqb, get_or, Some, None, Option, unwrap_or, sym, refl, ap, ◌∙◌, ap₂, zero-le, arith}
 use Rattle.std.proofs.lemmas.Bool.{false≢true}
 use Rattle.quorum.specs.Rules.{Rule, ample, ample_by}
 use Rattle.quorum.specs.Sets.{set_of}
@@ -10,19 +10,24 @@ use Rattle.vote.specs.History.{Seen, says, speaks}
 use Rattle.vote.specs.Search.{given, is, seek, when}
 use Rattle.vote.specs.Setting.{Setting, decision_on, lowest}
 use Rattle.agreement.specs.Plain.{all_say, some_says, compared}
-use Rattle.plain_board.specs.declared.tally.Tally.{Tally}
+use Rattle.heard.specs.declared.tally.Tally.{Tally}
 use Rattle.plain_board.specs.Shown.{tally_of, stage_of}
 use Rattle.plain_board.specs.Read.{agreed, common_of, least_of, verdict_on}
-use Rattle.plain_board.proofs.Masks.{all_in, some_in, table_at}
-use Rattle.plain_board.proofs.Search.{past_zero, seek_ext}
+use Rattle.vote.proofs.Seeking.{seek_found, seek_ext, some_in}
+use Rattle.heard.proofs.Read.{tally_all, tally_value}
+use Rattle.plain_board.proofs.Masks.{all_in}
 
 -- some sender in the tally bears v
 abbrev pub borne : Tally → ℕ → Bool
 borne t v = not (eqb (get_or t.values v 0) 0)
 
--- what is ample of a set that a call returned
-pub ample_too : (R : Rule) (a : Bool) (s t : ℕ) → a ≡ ample R s → s ≡ t → a ≡ ample R t
-ample_too R a s t p q = p ∙ ap (ample R) q
+-- a character that passes the test
+abbrev pub past_zero : (ℕ → Bool) → ℕ → Bool
+past_zero p v = not (eqb v 0) && p v
+
+pub found_low : (k : ℕ) (p : ℕ → Bool) (o : Option ℕ) → o ≡ seek (suc k) p → unwrap_or o 0 ≤ k
+found_low k p None e = zero-le
+found_low k p (Some v) e = let l = (seek_found (suc k) p v (sym e)).0 in omega arith
 
 is_given : (v : ℕ) (o : Option ℕ) → is v o ≡ true → given o ≡ true
 is_given v None h = absurd (false≢true h)
@@ -30,12 +35,10 @@ is_given v (Some u) h = refl
 
 module _ (S : Setting) (x : Seen) (c : ℕ) (t : Tally) (e : t ≡ tally_of S.rule.crew x c) where
   pub all_at : t.all ≡ set_of S.rule.crew (speaks x c)
-  unfolding tally_of
-  all_at = ap (λ (y : Tally). y.all) e
+  all_at = tally_all S.rule.crew (x.first c) t e
 
   pub value_at : (v : ℕ) → v ≤ 8 → get_or t.values v 0 ≡ set_of S.rule.crew (says x c v)
-  unfolding tally_of
-  value_at v h = ap (λ (y : Tally). get_or y.values v 0) e ∙ table_at 9 (λ v. set_of S.rule.crew (says x c v)) v (omega arith)
+  value_at = tally_value S.rule.crew (x.first c) t e
 
   pub agreed_is : (v : ℕ) → v ≤ 8 → agreed t v ≡ all_say S x c v
   unfolding all_say

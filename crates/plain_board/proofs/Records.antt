@@ -4,15 +4,16 @@ use Rattle.quorum.specs.Sets.{member}
 use Rattle.quorum.specs.Members.{member_set_of}
 use Rattle.vote.specs.declared.Decision.{Decision}
 use Rattle.vote.specs.declared.Vote.{Vote}
-use Rattle.vote.specs.History.{seen, speaks, memo}
+use Rattle.vote.specs.History.{seen, first, speaks, memo}
 use Rattle.vote.specs.Setting.{Setting}
 use Rattle.agreement.specs.Plain.{branch, decided}
 use Rattle.plain_board.specs.declared.record.PlainRecord.{PlainRecord}
 use Rattle.plain_board.specs.declared.stage.Stage.{Stage}
 use Rattle.plain_board.specs.declared.stage.Stage.TheVariants.{Gathering, Comparing, Decided}
-use Rattle.plain_board.specs.declared.tally.Tally.{Tally}
+use Rattle.heard.specs.declared.tally.Tally.{Tally}
 use Rattle.plain_board.specs.Shown.{stage_of, tally_of, record_of}
 use Rattle.plain_board.specs.Step.{repeats}
+use Rattle.heard.proofs.Read.{tally_all}
 use Rattle.plain_board.proofs.Tallies.{tally_other}
 use Rattle.plain_board.proofs.Stages.{at_gathering, at_comparing, at_decided}
 
@@ -47,8 +48,7 @@ module _ (S : Setting) (h : List Vote) (o : PlainRecord) (e : o ≡ record_of S 
   has_decision b d g = at_decided (branch S h) (decided S h) b d (sym stage_at ∙ g)
 
 sender_in : (n : ℕ) (h : List Vote) (t : Tally) (c i : ℕ) → t ≡ tally_of n (seen h) c → i < n → member i t.all ≡ speaks (seen h) c i
-unfolding tally_of
-sender_in n h t c i e l = ap (λ (y : Tally). member i y.all) e ∙ member_set_of n (speaks (seen h) c) i l
+sender_in n h t c i e l = ap (member i) (tally_all n (first h c) t e) ∙ member_set_of n (speaks (seen h) c) i l
 
 pub repeats_is : (n : ℕ) (h : List Vote) (t : Tally) (c : ℕ) (w : Vote) → t ≡ tally_of n (seen h) c → w.sender < n → w.kind ≡ c → member w.sender t.all ≡ repeats h w
 repeats_is n h t c w e l k = sender_in n h t c w.sender e l ∙ ap (λ (z : ℕ). speaks (seen h) z w.sender) (sym k)

@@ -1,10 +1,7 @@
--- The sizes that this crate rests on, each named once. Assumes nothing.
+-- The sizes that this crate rests on. Assumes nothing.
 use Rattle.std.specs.Prelude.{ℕ}
+use Rattle.vote.specs.Limits.{max_characters}
 
 -- the greatest value that a vote bears
 abbrev pub max_value : ℕ
-max_value = 8
-
--- as many values as there are: 0 and the characters
-abbrev pub all_values : ℕ
-all_values = 9
+max_value = max_characters

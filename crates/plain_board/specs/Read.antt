@@ -10,7 +10,7 @@ use Rattle.vote.specs.Search.{when}
 use Rattle.vote.specs.Setting.{Setting, decision_on, lowest}
 use Rattle.agreement.specs.Plain.{all_say, some_says, compared}
 use Rattle.plain_board.specs.declared.stage.Stage.{Stage}
-use Rattle.plain_board.specs.declared.tally.Tally.{Tally}
+use Rattle.heard.specs.declared.tally.Tally.{Tally}
 use Rattle.plain_board.specs.Limits.{max_value}
 use Rattle.plain_board.specs.Shown.{tally_of, stage_of}
 

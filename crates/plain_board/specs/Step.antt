@@ -9,7 +9,7 @@ use Rattle.vote.specs.Setting.{Setting}
 use Rattle.agreement.specs.Plain.{plain}
 use Rattle.vote.specs.News.{news_of}
 use Rattle.plain_board.specs.declared.record.PlainRecord.{PlainRecord}
-use Rattle.plain_board.specs.declared.tally.Tally.{Tally}
+use Rattle.heard.specs.declared.tally.Tally.{Tally}
 use Rattle.plain_board.specs.Shown.{tally_of, record_of}
 
 -- a vote of this kind and sender is in the history: only the first of each counts

@@ -1,25 +1,14 @@
 // The words that a plain board has posted, and those that it newly posts.
 ghost use Rattle.std.specs.Prelude.{◌≡◌, ◌≤◌};
-ghost use Rattle.vote.specs.Search.{is};
 ghost use Rattle.plain_board.specs.Limits.{max_value};
 ghost use Rattle.plain_board.specs.Step.{no_news, branch_news};
 
-use vote::{Depth, News};
-
-// Whether the word that is posted, if one is, bears the value.
-pub(crate) fn bears(word: Option<u8>, value: u8) -> bool
-    ensures { result ≡ is value word }
-{
-    match word {
-        None => false,
-        Some(v) => value == v,
-    }
-}
+use vote::{Depth, KINDS, News};
 
 pub(crate) fn none() -> News
     ensures { result ≡ no_news }
 {
-    News { kinds: [0; 5] }
+    News { kinds: [0; KINDS] }
 }
 
 // A branch that is just fixed: at depth 2 the others compare theirs with it, at depth 1 nobody asks for it.

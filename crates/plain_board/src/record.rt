@@ -12,9 +12,9 @@ ghost use Rattle.plain_board.specs.Step.{repeats as repeats_in, Counts};
 use crate::outcome::stage_on;
 use crate::posted;
 use crate::stage::Stage;
-use crate::tally::Tally;
-use quorum::{FailureRule, ample};
-use vote::{Decision, Depth, News, Vote};
+use crate::tally::{Tally, common};
+use quorum::{FailureRule, ample, has};
+use vote::{Decision, Depth, News, Vote, Voting};
 
 // Plain numbers of a fixed size, so that it fits a cabinet and is copied as it stands.
 #[derive(Clone, Copy)]
@@ -70,7 +70,7 @@ impl PlainRecord {
         }
         match depth {
             Depth::One => false,
-            Depth::Two => posted::bears(self.branch(), value),
+            Depth::Two => self.branch() == Some(value),
         }
     }
 
@@ -80,46 +80,40 @@ impl PlainRecord {
         ensures { (S : Setting) (h : List Vote) → vote.sender < S.rule.crew → self.now ≡ record_of S h → result ≡ repeats_in h vote }
     {
         match vote.kind {
-            1 => self.first.has(vote.sender),
-            _ => self.second.has(vote.sender),
+            1 => has(self.first.all, vote.sender),
+            _ => has(self.second.all, vote.sender),
         }
     }
 
     // Counts the word, unless it repeats another, and moves the board on. The answer is None for a word found counted already, and otherwise what is newly posted.
     // The caller has checked the word: its sender is of the crew, its kind and value are among those that there are.
-    pub fn count<R: FailureRule>(
-        &mut self,
-        rule: &R,
-        characters: u8,
-        depth: Depth,
-        vote: Vote,
-    ) -> Option<News>
-        requires sender_lt_max_crew { (vote.sender < max_crew) × (vote.sender < (R.meaning rule.now).crew) }
+    pub fn count<R: FailureRule>(&mut self, voting: &Voting<R>, vote: Vote) -> Option<News>
+        requires sender_lt_max_crew { (vote.sender < max_crew) × (vote.sender < (R.meaning voting.now.rule.now).crew) }
         requires le_kind { (1 ≤ vote.kind) × (vote.kind ≤ 2) }
-        requires value_le_max_value { (vote.value ≤ max_value) × (characters ≤ max_value) }
-        ensures shows { Counts (setting (R.meaning rule.now) characters depth) vote self.old self.new result }
-        ensures marks { PlainMarks (setting (R.meaning rule.now) characters depth) }
+        requires value_le_max_value { vote.value ≤ max_value }
+        ensures shows { Counts (setting (R.meaning voting.now.rule.now) voting.now.characters voting.now.depth) vote self.old self.new result }
+        ensures marks { PlainMarks (setting (R.meaning voting.now.rule.now) voting.now.characters voting.now.depth) }
     {
         if self.repeats(vote) {
             return None;
         }
         match (self.stage, vote.kind) {
             (Stage::Gathering, 1) => {
-                self.first.add(vote);
-                if ample(rule, self.first.all()) {
-                    let branch = self.first.common(characters);
-                    self.stage = stage_on(rule, characters, depth, branch, &self.second);
-                    return Some(posted::on_branch(depth, branch));
+                self.first.add(vote.value, vote.sender);
+                if ample(voting.rule, self.first.all) {
+                    let branch = common(voting, &self.first);
+                    self.stage = stage_on(voting, branch, &self.second);
+                    return Some(posted::on_branch(voting.depth, branch));
                 }
             }
-            (Stage::Gathering, _) => self.second.add(vote),
-            (Stage::Comparing(_), 1) => self.first.add(vote),
+            (Stage::Gathering, _) => self.second.add(vote.value, vote.sender),
+            (Stage::Comparing(_), 1) => self.first.add(vote.value, vote.sender),
             (Stage::Comparing(branch), _) => {
-                self.second.add(vote);
-                self.stage = stage_on(rule, characters, depth, branch, &self.second);
+                self.second.add(vote.value, vote.sender);
+                self.stage = stage_on(voting, branch, &self.second);
             }
-            (Stage::Decided(_, _), 1) => self.first.add(vote),
-            (Stage::Decided(_, _), _) => self.second.add(vote),
+            (Stage::Decided(_, _), 1) => self.first.add(vote.value, vote.sender),
+            (Stage::Decided(_, _), _) => self.second.add(vote.value, vote.sender),
         }
         Some(posted::none())
     }

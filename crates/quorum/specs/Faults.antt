@@ -1,6 +1,7 @@
 -- Why a rule cannot be made: which refusal, by rising number, and what is told of it. Assumes nothing.
 use Rattle.std.specs.Prelude.{◌≡◌, ℕ, ◌*◌, cond, List, Some, None, Ok, Err, Option, Result, nat_lt}
 use Rattle.refusal.specs.declared.Refusal.{Refusal}
+use Rattle.refusal.specs.Told.{told}
 use Rattle.quorum.specs.declared.fault.RuleFault.{RuleFault}
 use Rattle.quorum.specs.declared.fault.RuleFault.TheVariants.{Crew, Cover, Sets, WholeCrew}
 use Rattle.quorum.specs.Limits.{crew_fits, cover_fits}
@@ -15,7 +16,7 @@ number_of WholeCrew = 5
 
 -- what is told: the number, no place, and no board; each of these numbers is of the layer of a board
 abbrev pub refusal_of : RuleFault → Refusal
-refusal_of e = record { number = number_of e; place = None; board = None }
+refusal_of e = told (number_of e)
 
 -- no fault of the crew's size or the cover, or the first of them; where there is none, the further one
 abbrev pub size_fault : ℕ → ℕ → Option RuleFault → Option RuleFault

@@ -31,16 +31,14 @@ impl RuleFault {
             RuleFault::WholeCrew => 5,
         }
     }
+}
 
-    // What is told of the fault; the layer follows from the number.
-    pub fn refusal(self) -> Refusal
-        ensures { result ≡ refusal_of self }
-    {
-        Refusal {
-            number: self.number(),
-            place: None,
-            board: None,
-        }
+// What is told of the fault; the layer follows from the number.
+impl From<RuleFault> for Refusal {
+    ghost from_gives = { λ e r. r ≡ refusal_of e };
+
+    fn from(fault: RuleFault) -> Refusal {
+        Refusal::numbered(fault.number())
     }
 }
 

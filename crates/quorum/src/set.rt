@@ -1,7 +1,16 @@
 // Sets of boards as numbers: board i adds 2 to the power i.
 ghost use Rattle.std.specs.Prelude.{◌≡◌, ◌≤◌};
 ghost use Rattle.quorum.specs.Limits.{max_crew};
-ghost use Rattle.quorum.specs.Sets.{rest, in_crew};
+ghost use Rattle.quorum.specs.Sets.{member, rest, in_crew};
+
+use crate::limits::MAX_CREW;
+
+// Whether the board is in the set; a board from 16 up is in none.
+pub fn has(set: u16, board: u8) -> bool
+    ensures { result ≡ member board set }
+{
+    board < MAX_CREW && (set >> board) % 2 == 1
+}
 
 // The boards of the crew that are not in the set.
 pub(crate) fn outside(crew: u8, set: u16) -> u16
@@ -13,10 +22,9 @@ pub(crate) fn outside(crew: u8, set: u16) -> u16
     left as u16
 }
 
-// Whether the set has no board outside the crew.
-pub(crate) fn in_crew(crew: u8, set: u16) -> bool
-    requires { crew ≤ max_crew }
+// Whether the set has no board outside the crew; it can have none outside a crew of 16 or more.
+pub fn in_crew(crew: u8, set: u16) -> bool
     ensures { result ≡ in_crew crew set }
 {
-    (set as u32) < (1u32 << crew)
+    crew >= MAX_CREW || set < 1 << crew
 }

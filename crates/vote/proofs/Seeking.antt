@@ -1,5 +1,5 @@
 -- The least number below a bound that passes a test: what it is, and the steps of a loop that looks for it. Assumes nothing.
-use Rattle.std.proofs.Common.{◌≡◌, ℕ, zero, suc, ◌+◌, ◌<◌, ◌≤◌, Bool, true, false, not, ◌&&◌, eqb, leb, Some, None, Option, sym, refl, ap, ◌∙◌, ap₂, ⊎_elim, le_of_suc-le-suc, not-suc-le-zero, eq-or-lt_of_le, add-one, arith}
+use Rattle.std.proofs.Common.{◌≡◌, ℕ, zero, suc, ◌+◌, ◌<◌, ◌≤◌, Bool, true, false, not, ◌&&◌, eqb, leb, Some, None, Option, MatchOption, sym, refl, ap, ◌∙◌, ap₂, ⊎_elim, zero-le, le_of_suc-le-suc, not-suc-le-zero, eq-or-lt_of_le, arith}
 use Rattle.std.proofs.lemmas.Bool.{ne_eqb, eqb-false, le-leb, leb-true, cases_eq, cases_Bool, and_parts, and_from, not-true, not_from_false}
 use Rattle.quorum.specs.Sets.{member, set_of}
 use Rattle.quorum.specs.Truth.{clash, same_truth, false_since, false_unless}
@@ -51,30 +51,25 @@ all_from n p f =
     (λ e. not_from_false _ e)
     (cases_Bool (given (seek n (λ i. not (p i)))))
 
--- ---- a loop that looks from 0 up: its start, a turn that passes nothing, a turn that finds, its end over 0..k + 1
-pub seek_none : (p : ℕ → Bool) → seek 0 p ≡ None
+-- ---- a look from 0 up to k: what passed first, with what came before it, or that nothing passed
+pub nothing_below : (n : ℕ) (p : ℕ → Bool) → ((v : ℕ) → v < n → p v ≡ false) → seek n p ≡ None
 unfolding seek
-seek_none p = refl
+nothing_below zero p f = refl
+nothing_below (suc n) p f = rw (nothing_below n p (λ v h. f v (omega arith)), f n (omega arith))
 
-pub seek_more : (n : ℕ) (p : ℕ → Bool) → seek n p ≡ None → p n ≡ false → seek (n + 1) p ≡ None
+here : (n m : ℕ) (p : ℕ → Bool) → m < n → p m ≡ true → ((v : ℕ) → v < m → p v ≡ false) → seek n p ≡ Some m
 unfolding seek
-seek_more n p a b = rw (add-one n, a, b)
+here zero m p l t f = absurd (not-suc-le-zero l)
+here (suc n) m p l t f =
+    ⊎_elim (λ (e : m ≡ n). let b : p n ≡ true = rw e at t in rw (nothing_below n p (λ v h. f v (omega arith)), b) (ap {B = Option ℕ} Some (sym e)))
+    (λ (e : m < n). rw (here n m p e t f))
+    (eq-or-lt_of_le (le_of_suc-le-suc l))
 
-here : (n : ℕ) (p : ℕ → Bool) → seek n p ≡ None → p n ≡ true → seek (suc n) p ≡ Some n
-unfolding seek
-here n p a b = rw (a, b)
-
-stays : (n m : ℕ) (p : ℕ → Bool) → seek m p ≡ None → p m ≡ true → m < n → seek n p ≡ Some m
-unfolding seek
-stays zero m p a b l = absurd (not-suc-le-zero l)
-stays (suc n) m p a b l =
-    ⊎_elim (λ (e : m ≡ n). here n p (rw e at a) (rw e at b) ∙ ap {B = Option ℕ} Some (sym e)) (λ (e : m < n). rw (stays n m p a b e)) (eq-or-lt_of_le (le_of_suc-le-suc l))
-
-pub seek_hit : (k m : ℕ) (p : ℕ → Bool) → seek m p ≡ None → p m ≡ true → m < k + 1 → Some m ≡ seek (suc k) p
-seek_hit k m p a b l = sym (stays (suc k) m p a b (omega arith))
-
-pub seek_over : (k m : ℕ) (p : ℕ → Bool) → seek m p ≡ None → k + 1 ≤ m → m ≤ k + 1 → None ≡ seek (suc k) p
-seek_over k m p a b l = let e : m ≡ suc k = omega arith in sym (rw e at a)
+pub seek_first : (k : ℕ) (p : ℕ → Bool) (r : Option ℕ)
+    → MatchOption r ((v : ℕ) → 0 ≤ v → v < k + 1 → v ≤ k → p v ≡ false) (λ i. (0 ≤ i) × (i < k + 1) × (i ≤ k → p i ≡ true) × ((v : ℕ) → 0 ≤ v → v < i → v ≤ k → p v ≡ false))
+    → r ≡ seek (suc k) p
+seek_first k p None f = sym (nothing_below (suc k) p (λ v h. f v zero-le (omega arith) (omega arith)))
+seek_first k p (Some i) f = sym (here (suc k) i p (omega (arith, f.1)) (f.2 (omega (arith, f.1))) (λ v h. f.3 v zero-le h (omega (arith, f.1))))
 
 -- ---- a set that is not empty has a board
 pub set_of_none : (n : ℕ) → set_of n (λ i. false) ≡ 0

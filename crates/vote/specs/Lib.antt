@@ -1,4 +1,6 @@
+pub mod Limits
 pub mod Search
 pub mod History
 pub mod Setting
 pub mod News
+pub mod Conversions

@@ -1,7 +1,18 @@
 // What a board says, decides and orders: the plain data of the vote, and, in specs/, what a board has counted, as a list, and what a method is.
+// `conversions` makes a method and a depth of what stands for them, `graded` a decision of a value, `limits` has the sizes, and `voting` is what is settled before a vote.
 // How a board stores what it has counted, how words travel and how boards are joined is left to the crates above.
 
 #![tactic(auto)]
+
+pub mod conversions;
+pub mod graded;
+pub mod limits;
+pub mod voting;
+
+pub use conversions::{UnknownDepth, UnknownMethod};
+pub use graded::NOTHING;
+pub use limits::{ECHO, KINDS, MAX_CHARACTERS, VALUES};
+pub use voting::Voting;
 
 // One word as a board counts it. Group and change are the board's own.
 #[derive(Clone, Copy, PartialEq, Eq, Debug)]
@@ -35,5 +46,5 @@ pub enum Method {
 // The words that a board has newly posted: for each kind, from 1 on, the set of their values, to which value v adds 2 to the power v.
 #[derive(Clone, Copy, Debug)]
 pub struct News {
-    pub kinds: [u16; 5],
+    pub kinds: [u16; KINDS],
 }

@@ -5,4 +5,4 @@ use Rattle.vote.specs.News.{values}
 use Rattle.heard.proofs.search.strong_values.Given as goal
 
 abbrev pub invariant-loop-v : goal.invariant-loop-v
-invariant-loop-v g l = l.found ≡ values (λ v. ltb v l.v && strong (g.R.FailureRule.meaning l.rule) (get_or l.senders v 0))
+invariant-loop-v g l = l.found ≡ values (λ v. ltb v l.v && strong (g.R.FailureRule.meaning l.voting.rule.now) (get_or l.senders v 0))

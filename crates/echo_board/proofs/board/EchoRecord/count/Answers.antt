@@ -10,22 +10,22 @@ use Rattle.echo_board.proofs.board.EchoRecord.count.Goals as goal
 
 pub returns-then-repeats : goal.returns-then-repeats
 returns-then-repeats g c =
-    let S = setting (g.R.FailureRule.meaning c.args.rule.now) c.args.characters c.args.depth in
+    let S = setting (g.R.FailureRule.meaning c.args.voting.now.rule.now) c.args.voting.now.characters c.args.voting.now.depth in
     record {
       counts = λ s h e.
           step_repeat S s h c.args.vote c.args.self.now e
           (sym (c.repeats.ensures S.rule.crew h (omega arith) (heard_in S s h c.args.self.now e)) ∙ c.if-repeats.true);
-      keeps = board_keeps S (g.met.R.FailureRule.lawful c.args.rule.now);
+      keeps = board_keeps S (g.met.R.FailureRule.lawful c.args.voting.now.rule.now);
     }
 
 pub returns : goal.returns
 returns g c =
-    let S = setting (g.R.FailureRule.meaning c.args.rule.now) c.args.characters c.args.depth in
+    let S = setting (g.R.FailureRule.meaning c.args.voting.now.rule.now) c.args.voting.now.characters c.args.voting.now.depth in
     record {
       counts = λ s h e.
           let shown = heard_in S s h c.args.self.now e in
           let new : repeats h c.args.vote ≡ false = sym (c.repeats.ensures S.rule.crew h (omega arith) shown) ∙ c.if-repeats.false in
           let noted : c.note.new.self ≡ heard_of S.rule.crew (seen (c.args.vote ∷ h)) = c.note.ensures S.rule.crew h (omega arith) shown in
-          step_new S s h c.args.vote c.args.self.now e new noted (c.find-found.ensures (seen (c.args.vote ∷ h)) noted) c.remember.ensures.after c.remember.ensures.news;
-      keeps = board_keeps S (g.met.R.FailureRule.lawful c.args.rule.now);
+          step_new S s h c.args.vote c.args.self.now e (g.met.R.FailureRule.lawful c.args.voting.now.rule.now).nobody_fails new noted (c.find-found.ensures (seen (c.args.vote ∷ h)) noted) c.remember.ensures.after c.remember.ensures.news;
+      keeps = board_keeps S (g.met.R.FailureRule.lawful c.args.voting.now.rule.now);
     }

@@ -4,5 +4,4 @@ use Rattle.heard.proofs.counted.Heard.outcome.Goals as goal
 
 pub returns : goal.returns
 returns g c = λ d x e.
-    outcome_made (g.R.FailureRule.meaning c.args.rule.now) c.args.characters c.requires c.args.self.now d x e
-    c.or.ensures c.then_some.ensures (c.mixed.ensures d x e) c.ample.ensures.value c.lowest_ample-value.ensures
+    outcome_made (g.R.FailureRule.meaning c.args.voting.now.rule.now) c.args.voting.now.characters c.args.voting.now.few c.args.self.now d x e c.lowest_shared-value.result c.or.ensures c.lowest_shared-value.ensures c.then_some.ensures (c.late-nothing.ensures d x e)

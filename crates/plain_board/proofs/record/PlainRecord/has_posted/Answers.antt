@@ -2,6 +2,7 @@
 use Rattle.std.proofs.Common.{ℕ, Option, ap, ◌∙◌}
 use Rattle.vote.specs.Search.{is}
 use Rattle.vote.specs.declared.Depth.TheVariants.{One, Two}
+use Rattle.vote.proofs.Options.{same_is}
 use Rattle.plain_board.proofs.News.{posts_start, posts_other, posts_branch}
 use Rattle.plain_board.proofs.record.PlainRecord.has_posted.Goals as goal
 
@@ -16,5 +17,5 @@ returns-in-One c = λ S h d e. posts_branch S c.args.start h c.args.kind c.args.
 
 pub returns-in-Two : goal.returns-in-Two
 returns-in-Two c = λ S h d e.
-    c.bears.ensures ∙ ap (λ (o : Option ℕ). is c.args.value o) (c.branch-self.ensures S h e)
+    c.eq.ensures ∙ same_is c.args.value c.branch-self.result ∙ ap (λ (o : Option ℕ). is c.args.value o) (c.branch-self.ensures S h e)
     ∙ posts_branch S c.args.start h c.args.kind c.args.value Two (d ∙ c.in-Two.is) c.if-kind-ne2.false
