@@ -5,6 +5,7 @@
 
 mod tally;
 
+use refusal::Refusal;
 use std::io;
 use std::io::{BufRead, BufReader, BufWriter, Write};
 use tally::Tally;
@@ -27,7 +28,7 @@ fn tell(out: &mut impl Write, number: u64, answer: Result<Word, FrameFault>) -> 
             )
         }
         Err(fault) => {
-            let refusal = fault.refusal();
+            let refusal = Refusal::from(fault);
             let place = refusal.place.unwrap_or(0);
             let refused = refusal.number;
             writeln!(out, "{number}: refused {refused} at {place}")
@@ -40,6 +41,7 @@ fn main(rt: HostRuntime) -> io::Result<()> {
     let mut out = BufWriter::new(rt.alloc(), rt.stdout())?;
     let mut piece = Vec::new(rt.alloc());
     let mut tally = Tally::new();
+    // a count in place of a `loop`: each loop is proved to end, and no input has so many pieces
     for _ in 0..u64::MAX {
         piece.clear();
         if input.read_until(b'\n', &mut piece)? == 0 {

@@ -1,9 +1,12 @@
 -- How many words there are, by the ones of their sets, and how many bytes their frames have. Assumes nothing.
-use Rattle.std.proofs.Common.{◌≡◌, ℕ, zero, suc, ◌+◌, ◌-◌, ◌*◌, ◌/◌, ◌%◌, ◌^◌, ◌<◌, ◌≤◌, Bool, true, false, cond, eqb, [], ◌∷◌, length, get_or, decimal, sym, refl, ap, ◌∙◌, ap₂, one-mul, zero-mul, add-one, one-add, arith, lit<}
+use Rattle.std.proofs.Common.{◌≡◌, ℕ, zero, suc, ◌+◌, ◌-◌, ◌*◌, ◌/◌, ◌%◌, ◌^◌, ◌<◌, ◌≤◌, Bool, true, false, cond, eqb, [], ◌∷◌, length, get_or, take, decimal, sym, refl, ap, ◌∙◌, ap₂, one-mul, zero-mul, add-one, one-add, arith, lit<}
 use lib.Count.{ones, ones_step, ones_cat}
-use Rattle.std.specs.List.{flat_map}
+use Rattle.std.specs.List.{flat_map, sum_by}
+use Rattle.std.proofs.lemmas.List.Sums.{sum_by_push}
 use Rattle.std.proofs.lemmas.Nat.{mod-pow-add, mod_below, pow_pos, ones-le}
-use Rattle.std.proofs.lemmas.List.{length-append, length_push, append-nil}
+use Rattle.std.proofs.lemmas.List.{length-append, length_push, append-nil, nil_from_length, take_more, take_all}
+use Rattle.std.proofs.lemmas.Bool.{cond-true, cond-false, eq-eqb, ne_eqb}
+use Rattle.std.proofs.lemmas.Fmt.{decimal_digit}
 use Rattle.wire.specs.declared.posted.Posted.{Posted}
 use Rattle.wire.specs.declared.word.Word.{Word}
 use Rattle.wire.specs.Frames.{frame_of}
@@ -11,7 +14,6 @@ use Rattle.wire.specs.Limits.{comma, line_feed}
 use Rattle.wire.specs.Slips.{has, in_order, word_of, holds, if_held, words_of_kind, words_of, frames_of}
 use Rattle.wire.proofs.FrameText.{frame_length}
 use Rattle.wire.proofs.InOrder.{joined_weighs}
-use Rattle.wire.proofs.Lows.{width_last}
 
 ones_bit : (b : ℕ) → b < 2 → ones b ≡ b
 unfolding ones
@@ -43,6 +45,17 @@ module _ (p : Posted) where
   unfolding words_of_kind
   kind_count k = ones_held (word_of p k) (get_or p.kinds (k - 1) 0) 9
 
+  -- a set without values
+  pub none_of_kind : (k : ℕ) → get_or p.kinds (k - 1) 0 % 512 ≡ 0 → words_of_kind p k ≡ []
+  none_of_kind k none = nil_from_length (words_of_kind p k) (sym (kind_count k) ∙ ap ones none ∙ ones_bit 0 (lit< tt))
+
+  -- the frame of a value that a set has, and of one that it has not
+  pub held_frame : (k v : ℕ) → get_or p.kinds (k - 1) 0 / 2 ^ v % 2 ≡ 1 → flat_map frame_of (if_held p k v) ≡ frame_of (word_of p k v)
+  held_frame k v one = ap (flat_map frame_of) (cond-true (holds p k v) _ _ (eq-eqb (get_or p.kinds (k - 1) 0 / 2 ^ v % 2) 1 one)) ∙ append-nil (frame_of (word_of p k v))
+
+  pub none_held : (k v : ℕ) → (get_or p.kinds (k - 1) 0 / 2 ^ v % 2 ≡ 1 → ⊥) → flat_map frame_of (if_held p k v) ≡ []
+  none_held k v other = ap (flat_map frame_of) (cond-false (holds p k v) _ _ (ne_eqb (get_or p.kinds (k - 1) 0 / 2 ^ v % 2) 1 other))
+
   -- every frame of a slip has the same length
   same_length : (k v : ℕ) → k < 10 → v < 10 → length (frame_of (word_of p k v)) ≡ length (frame_of (word_of p 1 0))
   same_length k v kh vh =
@@ -54,10 +67,10 @@ module _ (p : Posted) where
         length_push (decimal v) line_feed,
         length_push (decimal 1) comma,
         length_push (decimal 0) line_feed,
-        width_last k kh,
-        width_last v vh,
-        width_last 1 (lit< tt),
-        width_last 0 (lit< tt),
+        ap length (decimal_digit k kh),
+        ap length (decimal_digit v vh),
+        ap length (decimal_digit 1 (lit< tt)),
+        ap length (decimal_digit 0 (lit< tt)),
       )
 
   length_held : (b : Bool) (w : Word) → length (flat_map frame_of (cond b (w ∷ []) [])) ≡ length (cond b (w ∷ []) []) * length (frame_of w)
@@ -80,6 +93,20 @@ module _ (p : Posted) where
       ap (λ k. length (in_order (λ j. words_of_kind p (suc j)) k)) (add-one n)
       ∙ length-append (in_order (λ j. words_of_kind p (suc j)) n) (words_of_kind p (suc n))
       ∙ ap (λ k. length (in_order (λ j. words_of_kind p (suc j)) n) + k) (sym (kind_count (suc n)) ∙ ap (λ i. ones (get_or p.kinds i 0 % 512)) (omega arith))
+
+  -- the first kinds
+  words_of_first : (n : ℕ) → n ≤ length p.kinds → length (in_order (λ j. words_of_kind p (suc j)) n) ≡ sum_by (λ m. ones (m % 512)) (take n p.kinds)
+  words_of_first zero h = refl
+  words_of_first (suc n) h =
+      ap (λ k. length (in_order (λ j. words_of_kind p (suc j)) k)) (sym (add-one n))
+      ∙ count_more n
+      ∙ ap (λ k. k + ones (get_or p.kinds n 0 % 512)) (words_of_first n (omega arith))
+      ∙ sym (sum_by_push (λ m. ones (m % 512)) (take n p.kinds) (get_or p.kinds n 0))
+      ∙ ap (sum_by (λ m. ones (m % 512))) (sym (take_more p.kinds n 0 (omega arith)) ∙ ap (λ k. take k p.kinds) (add-one n))
+
+  pub words_summed : length p.kinds ≡ 5 → length (words_of p) ≡ sum_by (λ m. ones (m % 512)) p.kinds
+  unfolding words_of
+  words_summed five = words_of_first 5 (omega arith) ∙ ap (sum_by (λ m. ones (m % 512))) (take_all 5 p.kinds (omega arith))
 
 pub ones_of_nine : (m : ℕ) → ones (m % 512) ≤ 9
 ones_of_nine m = ones-le 9 (m % 512) (mod_below m 512 (lit< tt))

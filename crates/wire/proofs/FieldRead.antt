@@ -1,60 +1,70 @@
--- What a field is, from the length of its run and its number cut at a cap beyond the range. Assumes nothing.
-use Rattle.std.proofs.Common.{◌≡◌, ℕ, ◌+◌, ◌-◌, ◌<◌, ◌≤◌, min, true, false, cond, eqb, leb, List, length, take, drop, Ok, Err, sym, ap, ◌∙◌, ap₂, ⊎_elim, arith}
+-- What a field is, from the number and the length of its run of digits. Assumes nothing.
+use Rattle.std.proofs.Common.{◌≡◌, ℕ, ◌+◌, ◌-◌, ◌<◌, ◌≤◌, Bool, true, false, cond, eqb, leb, ltb, List, [], ◌∷◌, length, take, drop, Some, None, Ok, Err, Option, sym, refl, ap, ◌∙◌, arith}
 use Rattle.std.proofs.lemmas.List.Sums.{prefix_len-le-length}
 use Rattle.std.proofs.lemmas.List.{length-drop, take_rest}
-use Rattle.std.proofs.lemmas.Bool.{cond-true, cond-false, eq-eqb, ne_eqb, leb-true, leb-false, lt-leb, and_parts, and_cases, and_left, and_right}
+use Rattle.std.proofs.lemmas.Bool.{cond-true, cond-false, eq-eqb, eqb-true, ne_eqb, lt-leb, ltb-false, and_parts, and_right}
 use Rattle.wire.specs.Faults.{fault}
-use Rattle.wire.specs.Fields.{is_digit, run, number, zero_leads, is_within, field_at}
+use Rattle.wire.proofs.Outcomes.{held, not_held}
+use Rattle.wire.specs.Fields.{is_digit, run, value_of, number, digits, zero_leads, is_within, field_at}
 
 -- the reader's rest of the bytes, `&bytes[p..]`
 abbrev pub rest : List ℕ → ℕ → List ℕ
 rest xs p = take (length xs - p) (drop p xs)
 
--- a number that is cut beyond the range is within it only as itself
-cut_out : (low high n v : ℕ) → low < 65536 → high < 65536 → v ≡ min n 65536 → is_within low high v ≡ false → is_within low high n ≡ false
-cut_out low high n v lf hf e out =
-    ⊎_elim
-    (λ l. and_left (leb low n) (leb n high) (lt-leb low n (omega (arith, leb-false low v l))))
-    (λ h. and_right (leb low n) (leb n high) (lt-leb n high (omega (arith, leb-false v high h))))
-    (and_cases (leb low v) (leb v high) out)
+run_of_zero : (xs : List ℕ) → zero_leads xs ≡ true → run xs ≡ 0 → ⊥
+run_of_zero [] e none = cc
+run_of_zero (x ∷ xs) e none =
+    let zero_is : x ≡ 48 = eqb-true x 48 (and_parts (eqb x 48) _ e).0 in
+    omega (arith, cond-true (is_digit x) (1 + run xs) 0 (ap is_digit zero_is))
 
-module _ (xs : List ℕ) (p v n low high : ℕ) (value : v ≡ min (number (rest xs p)) 65536) (len : n ≡ run (rest xs p)) where
-  says : v ≡ min (number (drop p xs)) 65536
-  says = value ∙ ap (λ s. min (number s) 65536) (take_rest xs p)
-
-  long : n ≡ run (drop p xs)
-  long = len ∙ ap run (take_rest xs p)
-
-  pub run_inside : p ≤ length xs → p + n ≤ length xs
-  run_inside le = omega (arith, long, prefix_len-le-length is_digit (drop p xs), length-drop p xs)
-
-  pub field_none : n ≡ 0 → Err (fault 11 p) ≡ field_at xs p low high
+module _ (xs : List ℕ) (p low high : ℕ) where
+  pub field_zero : zero_leads (rest xs p) ≡ true → Err (fault 12 p) ≡ field_at xs p low high
   unfolding field_at
-  field_none z = sym (cond-true (eqb (run (drop p xs)) 0) _ _ (eq-eqb (run (drop p xs)) 0 (sym long ∙ z)))
+  field_zero z =
+      let zero_is : zero_leads (drop p xs) ≡ true = ap zero_leads (sym (take_rest xs p)) ∙ z in
+      sym (cond-false (eqb (run (drop p xs)) 0) _ _ (ne_eqb (run (drop p xs)) 0 (run_of_zero (drop p xs) zero_is)) ∙ cond-true (zero_leads (drop p xs)) _ _ zero_is)
 
-  module _ (some : n ≡ 0 → ⊥) where
-    pub field_zero : zero_leads (rest xs p) ≡ true → Err (fault 12 p) ≡ field_at xs p low high
-    unfolding field_at
-    field_zero z = sym (
-        cond-false (eqb (run (drop p xs)) 0) _ _ (ne_eqb (run (drop p xs)) 0 (λ e. some (long ∙ e)))
-        ∙ cond-true (zero_leads (drop p xs)) _ _ (ap zero_leads (sym (take_rest xs p)) ∙ z))
+  module _ (o : Option (ℕ × ℕ)) (is : o ≡ digits (rest xs p)) where
+    said : o ≡ digits (drop p xs)
+    said = is ∙ ap digits (take_rest xs p)
 
-    module _ (plain : zero_leads (rest xs p) ≡ false) (low_fits : low < 65536) (high_fits : high < 65536) where
-      by_range : field_at xs p low high ≡ cond (is_within low high (number (drop p xs))) (Ok (number (drop p xs), p + run (drop p xs))) (Err (fault 13 p))
+    module _ (n len : ℕ) (some : o ≡ Some (n, len)) where
+      parts : ◌≡◌ {A = ℕ × ℕ} (number (drop p xs), run (drop p xs)) (n, len)
+      parts = held (ltb (number (drop p xs)) 65536) (number (drop p xs), run (drop p xs)) (n, len) (sym said ∙ some)
+
+      long : run (drop p xs) ≡ len
+      long = ap (λ x. x.1) parts
+
+      pub run_inside : p ≤ length xs → p + len ≤ length xs
+      run_inside le = omega (arith, long, prefix_len-le-length is_digit (drop p xs), length-drop p xs)
+
+      pub field_none : len ≡ 0 → Err (fault 11 p) ≡ field_at xs p low high
       unfolding field_at
-      by_range =
-          cond-false (eqb (run (drop p xs)) 0) _ _ (ne_eqb (run (drop p xs)) 0 (λ e. some (long ∙ e)))
+      field_none z = sym (cond-true (eqb (run (drop p xs)) 0) _ _ (eq-eqb (run (drop p xs)) 0 (long ∙ z)))
+
+    module _ (plain : zero_leads (rest xs p) ≡ false) where
+      by_range : (run (drop p xs) ≡ 0 → ⊥) → field_at xs p low high ≡ cond (is_within low high (number (drop p xs))) (Ok (number (drop p xs), p + run (drop p xs))) (Err (fault 13 p))
+      unfolding field_at
+      by_range some =
+          cond-false (eqb (run (drop p xs)) 0) _ _ (ne_eqb (run (drop p xs)) 0 some)
           ∙ cond-false (zero_leads (drop p xs)) _ _ (ap zero_leads (sym (take_rest xs p)) ∙ plain)
 
-      pub field_out : is_within low high v ≡ false → Err (fault 13 p) ≡ field_at xs p low high
-      field_out out = sym (by_range ∙ cond-false (is_within low high (number (drop p xs))) _ _ (cut_out low high (number (drop p xs)) v low_fits high_fits says out))
+      -- a number that 16 bits don't hold is beyond every range
+      pub field_beyond : high < 65536 → o ≡ None → Err (fault 13 p) ≡ field_at xs p low high
+      field_beyond fits none =
+          let m = number (drop p xs) in
+          let large : 65536 ≤ m = ltb-false m 65536 (not_held (ltb m 65536) (m, run (drop p xs)) (sym said ∙ none)) in
+          let some : run (drop p xs) ≡ 0 → ⊥ = λ z. omega (arith, ap (λ k. value_of (take k (drop p xs))) z) in
+          sym (by_range some ∙ cond-false (is_within low high m) _ _ (and_right (leb low m) (leb m high) (lt-leb m high (omega arith))))
 
-      pub field_good : is_within low high v ≡ true → (Ok (v, p + n) ≡ field_at xs p low high) × (low ≤ v) × (v ≤ high)
-      field_good in_range =
-          let l : low ≤ v = leb-true low v (and_parts (leb low v) (leb v high) in_range).0 in
-          let h : v ≤ high = leb-true v high (and_parts (leb low v) (leb v high) in_range).1 in
-          let same : number (drop p xs) ≡ v = omega (arith, says) in (
-            sym (by_range ∙ cond-true (is_within low high (number (drop p xs))) _ _ (ap (is_within low high) same ∙ in_range) ∙ ap₂ (λ x y. Ok (x, p + y)) same (sym long)),
-            l,
-            h,
-          )
+      module _ (n len : ℕ) (some : o ≡ Some (n, len)) (digit : len ≡ 0 → ⊥) where
+        in_range : field_at xs p low high ≡ cond (is_within low high n) (Ok (n, p + len)) (Err (fault 13 p))
+        in_range =
+            by_range (λ z. digit (sym (long n len some) ∙ z))
+            ∙ ap (λ x. cond (is_within low high x.0) (Ok (x.0, p + x.1)) (Err (fault 13 p))) (parts n len some)
+
+        pub field_out : is_within low high n ≡ false → Err (fault 13 p) ≡ field_at xs p low high
+        field_out out = sym (in_range ∙ cond-false (is_within low high n) _ _ out)
+
+        pub field_good : is_within low high n ≡ true → Ok (n, p + len) ≡ field_at xs p low high
+        field_good inside = sym (in_range ∙ cond-true (is_within low high n) _ _ inside)

@@ -79,20 +79,21 @@ within_parts low high n e =
 pub within_from : (low high n : ℕ) → low ≤ n → n ≤ high → is_within low high n ≡ true
 within_from low high n l h = and_from (leb low n) (leb n high) (le-leb low n l) (le-leb n high h)
 
+-- the five tests of a word
 module _ (w : Word) where
-  of_group : Bool
+  unfoldable pub of_group : Bool
   of_group = is_within 1 max_id w.group
 
-  of_change : Bool
+  unfoldable pub of_change : Bool
   of_change = is_within 1 max_id w.change
 
-  of_sender : Bool
+  unfoldable pub of_sender : Bool
   of_sender = is_within 0 max_sender w.sender
 
-  of_kind : Bool
+  unfoldable pub of_kind : Bool
   of_kind = is_within 1 max_kind w.kind
 
-  of_value : Bool
+  unfoldable pub of_value : Bool
   of_value = is_within 0 max_value w.value
 
   pub carried_ranges : carried w ≡ true → Ranges w

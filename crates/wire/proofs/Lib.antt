@@ -3,8 +3,8 @@ pub mod Runs
 pub mod FieldRead
 pub mod FieldText
 pub mod FrameText
-pub mod PutAt
-pub mod Lows
+pub mod PutFront
+pub mod Widths
 pub mod Ranging
 pub mod InOrder
 pub mod Counting

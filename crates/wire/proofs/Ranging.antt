@@ -1,74 +1,90 @@
 -- The first number of a word that no frame can carry. Assumes nothing.
-use Rattle.std.proofs.Common.{◌≡◌, ℕ, Bool, true, false, cond, [], ◌∷◌, Some, None, Option, sym, refl, ap, ◌∙◌, arith}
-use Rattle.std.proofs.lemmas.Bool.{cond-true, cond-false}
+use Rattle.std.proofs.Common.{◌≡◌, ℕ, ◌+◌, Bool, true, false, cond, ◌&&◌, List, [], ◌∷◌, length, Some, None, Ok, Err, Option, Result, refl, sym, ap, ◌∙◌, zero-add}
 use Rattle.wire.specs.declared.fault.FrameFault.{FrameFault}
 use Rattle.wire.specs.declared.word.Word.{Word}
 use Rattle.wire.specs.Faults.{fault}
-use Rattle.wire.specs.Fields.{is_within}
-use Rattle.wire.specs.Limits.{max_id, max_sender, max_kind, max_value}
-use Rattle.wire.specs.Writes.{change_place, sender_place, kind_place, value_place, first_failed, range_fault}
-use Rattle.wire.proofs.FrameText.{Ranges, within_parts, within_from}
+use Rattle.wire.specs.Fields.{is_within, and_then}
+use Rattle.wire.specs.Frames.{field_bytes, carried}
+use Rattle.wire.specs.Limits.{max_id, max_sender, max_kind, max_value, comma}
+use Rattle.wire.specs.Writes.{change_place, sender_place, kind_place, value_place, place_behind, first_failed, unless, range_fault}
+use Rattle.wire.proofs.FrameText.{Ranges, of_group, of_change, of_sender, of_kind, of_value, carried_ranges, ranges_carried}
 
-none_failed : (b : Bool) (x : Option FrameFault) (f : FrameFault) → cond b x (Some f) ≡ None → (b ≡ true) × (x ≡ None)
-none_failed true x f e = (refl, e)
-none_failed false x f e = let z : ◌≡◌ {A = ℕ} 0 1 = cc in absurd (let q : ⊥ = omega arith in q)
+-- a test more before the others: no fault is found where all pass
+all_passed : (b c : Bool) (f : FrameFault) (x : Option FrameFault) → (x ≡ None → c ≡ true) → cond b x (Some f) ≡ None → (b && c) ≡ true
+all_passed true c f x others e = others e
+all_passed false c f x others e = cc
 
-module _ (w : Word) (p q r s : ℕ) (ps : p ≡ change_place w) (qs : q ≡ sender_place w) (rs : r ≡ kind_place w) (ss : s ≡ value_place w) where
-  pub bad_group : is_within 1 max_id w.group ≡ false → Some (fault 13 0) ≡ range_fault w
-  unfolding range_fault
-  bad_group g = sym (cond-false (is_within 1 max_id w.group) _ _ g)
+none_failed : (b c : Bool) (f : FrameFault) (x : Option FrameFault) → (c ≡ true → x ≡ None) → (b && c) ≡ true → cond b x (Some f) ≡ None
+none_failed true c f x others e = others e
+none_failed false c f x others e = cc
 
-  module _ (g : is_within 1 max_id w.group ≡ true) where
-    pub bad_change : is_within 1 max_id w.change ≡ false → Some (fault 13 p) ≡ range_fault w
+-- the last test
+last_passed : (b : Bool) (f : FrameFault) → cond b None (Some f) ≡ None → b ≡ true
+last_passed true f e = refl
+last_passed false f e = cc
+
+last_not_failed : (b : Bool) (f : FrameFault) → b ≡ true → cond b None (Some f) ≡ None
+last_not_failed true f e = refl
+last_not_failed false f e = cc
+
+module _ (w : Word) where
+  -- a word without a fault can be carried
+  pub none_ranges : range_fault w ≡ None → Ranges w
+  unfolding range_fault carried of_group of_change of_sender of_kind of_value
+  none_ranges e =
+      carried_ranges w
+      (all_passed (of_group w) (of_change w && (of_sender w && (of_kind w && of_value w))) _ _
+      (all_passed (of_change w) (of_sender w && (of_kind w && of_value w)) _ _
+      (all_passed (of_sender w) (of_kind w && of_value w) _ _
+      (all_passed (of_kind w) (of_value w) _ _ (last_passed (of_value w) _)))) e)
+
+  -- a word that can be carried has no fault
+  pub ranges_none : Ranges w → range_fault w ≡ None
+  unfolding range_fault carried of_group of_change of_sender of_kind of_value
+  ranges_none r =
+      none_failed (of_group w) (of_change w && (of_sender w && (of_kind w && of_value w))) _ _
+      (none_failed (of_change w) (of_sender w && (of_kind w && of_value w)) _ _
+      (none_failed (of_sender w) (of_kind w && of_value w) _ _
+      (none_failed (of_kind w) (of_value w) _ _ (last_not_failed (of_value w) _)))) (ranges_carried w r)
+
+module _ {X : Type 0} where
+  unless_ok : (o : Option FrameFault) (r : Result X FrameFault) (x : X) → unless o r ≡ Ok x → o ≡ None
+  unless_ok None r x e = refl
+  unless_ok (Some f) r x e = cc
+
+  -- a word that a call let pass
+  pub passed_ranges : (w : Word) (r s : Result X FrameFault) (x : X) → s ≡ unless (range_fault w) r → s ≡ Ok x → Ranges w
+  passed_ranges w r s x is ok = none_ranges w (unless_ok (range_fault w) r x (sym is ∙ ok))
+
+  -- a test more before the others, which gives the next place where it passes
+  one_more : (b : Bool) (p : ℕ) (f : FrameFault) (tests : List (Bool × FrameFault)) (r : Result X FrameFault) (next : ℕ → Result X FrameFault) → unless (first_failed tests) r ≡ next p → unless (first_failed ((b, f) ∷ tests)) r ≡ and_then (cond b (Ok p) (Err f)) next
+  one_more true p f tests r next e = e
+  one_more false p f tests r next e = refl
+
+  module _ (w : Word) (r : Result X FrameFault) where
+    abbrev after_value : ℕ → Result X FrameFault
+    after_value p = and_then (place_behind w.value 0 max_value p) (λ _. r)
+
+    abbrev after_kind : ℕ → Result X FrameFault
+    after_kind p = and_then (place_behind w.kind 1 max_kind p) after_value
+
+    abbrev after_sender : ℕ → Result X FrameFault
+    after_sender p = and_then (place_behind w.sender 0 max_sender p) after_kind
+
+    abbrev after_change : ℕ → Result X FrameFault
+    after_change p = and_then (place_behind w.change 1 max_id p) after_sender
+
+    -- the ranges tested field by field, each from the place where the one before ends
+    pub by_places : unless (range_fault w) r ≡ and_then (place_behind w.group 1 max_id 0) after_change
     unfolding range_fault
-    bad_change c = sym (cond-true (is_within 1 max_id w.group) _ _ g ∙ cond-false (is_within 1 max_id w.change) _ _ c ∙ ap (λ k. Some (fault 13 k)) (sym ps))
-
-    module _ (c : is_within 1 max_id w.change ≡ true) where
-      pub bad_sender : is_within 0 max_sender w.sender ≡ false → Some (fault 13 q) ≡ range_fault w
-      unfolding range_fault
-      bad_sender f = sym (cond-true (is_within 1 max_id w.group) _ _ g ∙ cond-true (is_within 1 max_id w.change) _ _ c ∙ cond-false (is_within 0 max_sender w.sender) _ _ f ∙ ap (λ k. Some (fault 13 k)) (sym qs))
-
-      module _ (sok : is_within 0 max_sender w.sender ≡ true) where
-        three : range_fault w ≡ first_failed ((is_within 1 max_kind w.kind, fault 13 (kind_place w)) ∷ (is_within 0 max_value w.value, fault 13 (value_place w)) ∷ [])
-        unfolding range_fault
-        three = cond-true (is_within 1 max_id w.group) _ _ g ∙ cond-true (is_within 1 max_id w.change) _ _ c ∙ cond-true (is_within 0 max_sender w.sender) _ _ sok
-
-        pub bad_kind : is_within 1 max_kind w.kind ≡ false → Some (fault 13 r) ≡ range_fault w
-        bad_kind k = sym (three ∙ cond-false (is_within 1 max_kind w.kind) _ _ k ∙ ap (λ n. Some (fault 13 n)) (sym rs))
-
-        module _ (k : is_within 1 max_kind w.kind ≡ true) where
-          pub bad_value : is_within 0 max_value w.value ≡ false → Some (fault 13 s) ≡ range_fault w
-          bad_value v = sym (three ∙ cond-true (is_within 1 max_kind w.kind) _ _ k ∙ cond-false (is_within 0 max_value w.value) _ _ v ∙ ap (λ n. Some (fault 13 n)) (sym ss))
-
-          pub all_good : is_within 0 max_value w.value ≡ true → None ≡ range_fault w
-          all_good v = sym (three ∙ cond-true (is_within 1 max_kind w.kind) _ _ k ∙ cond-true (is_within 0 max_value w.value) _ _ v)
-
--- a word without a fault can be carried
-pub none_ranges : (w : Word) → range_fault w ≡ None → Ranges w
-unfolding range_fault
-none_ranges w e =
-    let g = none_failed (is_within 1 max_id w.group) _ _ e in
-    let c = none_failed (is_within 1 max_id w.change) _ _ g.1 in
-    let s = none_failed (is_within 0 max_sender w.sender) _ _ c.1 in
-    let k = none_failed (is_within 1 max_kind w.kind) _ _ s.1 in
-    let v = none_failed (is_within 0 max_value w.value) _ _ k.1 in
-    record {
-      group_low = (within_parts 1 max_id w.group g.0).0;
-      group_high = (within_parts 1 max_id w.group g.0).1;
-      change_low = (within_parts 1 max_id w.change c.0).0;
-      change_high = (within_parts 1 max_id w.change c.0).1;
-      sender_high = (within_parts 0 max_sender w.sender s.0).1;
-      kind_low = (within_parts 1 max_kind w.kind k.0).0;
-      kind_high = (within_parts 1 max_kind w.kind k.0).1;
-      value_high = (within_parts 0 max_value w.value v.0).1;
-    }
-
--- a word that can be carried has no fault
-pub ranges_none : (w : Word) → Ranges w → range_fault w ≡ None
-ranges_none w r =
-    sym (all_good w (change_place w) (sender_place w) (kind_place w) (value_place w) refl refl refl refl
-    (within_from 1 max_id w.group r.group_low r.group_high)
-    (within_from 1 max_id w.change r.change_low r.change_high)
-    (within_from 0 max_sender w.sender (omega arith) r.sender_high)
-    (within_from 1 max_kind w.kind r.kind_low r.kind_high)
-    (within_from 0 max_value w.value (omega arith) r.value_high))
+    by_places =
+        let value = (is_within 0 max_value w.value, fault 13 (value_place w)) ∷ [] in
+        let kind = (is_within 1 max_kind w.kind, fault 13 (kind_place w)) ∷ value in
+        let sender = (is_within 0 max_sender w.sender, fault 13 (sender_place w)) ∷ kind in
+        let change = (is_within 1 max_id w.change, fault 13 (change_place w)) ∷ sender in
+        one_more (is_within 1 max_id w.group) (change_place w) (fault 13 0) change r after_change
+        (one_more (is_within 1 max_id w.change) (sender_place w) (fault 13 (change_place w)) sender r after_sender
+        (one_more (is_within 0 max_sender w.sender) (kind_place w) (fault 13 (sender_place w)) kind r after_kind
+        (one_more (is_within 1 max_kind w.kind) (value_place w) (fault 13 (kind_place w)) value r after_value
+        (one_more (is_within 0 max_value w.value) (value_place w + length (field_bytes w.value comma)) (fault 13 (value_place w)) [] r (λ _. r) refl))))
+        ∙ ap (λ p. and_then (cond (is_within 1 max_id w.group) (Ok p) (Err (fault 13 0))) after_change) (sym (zero-add (change_place w)))

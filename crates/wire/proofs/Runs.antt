@@ -1,23 +1,44 @@
 -- The longest run of digits: one step of a loop over it, and where the loop stops. Assumes nothing.
-use Rattle.std.proofs.Common.{◌≡◌, ℕ, ◌+◌, ◌-◌, ◌*◌, ◌<◌, ◌≤◌, min, true, false, List, length, get_or, take, drop, ap, ◌∙◌, arith}
+use Rattle.std.proofs.Common.{◌≡◌, ℕ, zero, suc, ◌+◌, ◌-◌, ◌*◌, ◌<◌, ◌≤◌, true, false, List, [], ◌∷◌, length, get_or, take, drop, fold, ltb, Some, None, sym, ap, ◌∙◌, ap₂, take-take, arith}
+use Rattle.std.proofs.lemmas.Bool.{cond-true, cond-false, lt-ltb, le-ltb, ltb-false}
 use Rattle.std.proofs.lemmas.List.Sums.{fold_more, prefix_len-drop_yes, prefix_len-drop_no, prefix_len-drop_all}
-use Rattle.wire.specs.Fields.{is_digit, run, value_of, number}
+use Rattle.wire.specs.Fields.{is_digit, run, value_of, number, within_16_bits, digits}
+use Rattle.wire.proofs.Outcomes.{not_held}
 
--- after i digits: v is the number so far, cut at the cap, and i of the run's bytes are passed
-module _ (cap : ℕ) (xs : List ℕ) (i v : ℕ) (so : v ≡ min (value_of (take i xs)) cap) (left : i + run (drop i xs) ≡ run xs) where
-  at_end : run (drop i xs) ≡ 0 → (v ≡ min (number xs) cap) × (i ≡ run xs)
-  at_end e =
+-- digits more make a number no smaller
+value_grows : (n : ℕ) (ds : List ℕ) → n ≤ fold (λ a d. a * 10 + (d - 48)) n ds
+value_grows n [] = omega arith
+value_grows n (d ∷ ds) = omega (arith, value_grows (n * 10 + (d - 48)) ds)
+
+value_le : (i n : ℕ) (ds : List ℕ) → fold (λ a d. a * 10 + (d - 48)) n (take i ds) ≤ fold (λ a d. a * 10 + (d - 48)) n ds
+value_le zero n ds = value_grows n ds
+value_le (suc i) n [] = omega arith
+value_le (suc i) n (d ∷ ds) = value_le i (n * 10 + (d - 48)) ds
+
+-- after i digits: v is the number so far, and i of the run's bytes are passed
+module _ (xs : List ℕ) (i v : ℕ) (so : v ≡ value_of (take i xs)) (left : i + run (drop i xs) ≡ run xs) where
+  found : v < 65536 → run (drop i xs) ≡ 0 → Some (v, i) ≡ digits xs
+  found fits none =
       let place : i ≡ run xs = omega arith in
-      (so ∙ ap (λ k. min (value_of (take k xs)) cap) place, place)
+      let value : v ≡ number xs = so ∙ ap (λ k. value_of (take k xs)) place in
+      ap₂ (λ n k. Some (n, k)) value place ∙ sym (cond-true (ltb (number xs) 65536) _ _ (lt-ltb (number xs) 65536 (omega arith)))
 
-  pub stops : i < length xs → is_digit (get_or xs i 0) ≡ false → (v ≡ min (number xs) cap) × (i ≡ run xs)
-  stops h e = at_end (prefix_len-drop_no is_digit xs i 0 h e)
+  pub stops : v < 65536 → i < length xs → is_digit (get_or xs i 0) ≡ false → Some (v, i) ≡ digits xs
+  stops fits h e = found fits (prefix_len-drop_no is_digit xs i 0 h e)
 
-  pub ends : length xs ≤ i → (v ≡ min (number xs) cap) × (i ≡ run xs)
-  ends h = at_end (prefix_len-drop_all is_digit xs i h)
+  pub ends : v < 65536 → length xs ≤ i → Some (v, i) ≡ digits xs
+  ends fits h = found fits (prefix_len-drop_all is_digit xs i h)
 
-  pub goes : i < length xs → is_digit (get_or xs i 0) ≡ true → (min (v * 10 + (get_or xs i 0 - 48)) cap ≡ min (value_of (take (i + 1) xs)) cap) × (i + 1 + run (drop (i + 1) xs) ≡ run xs)
+  pub goes : i < length xs → is_digit (get_or xs i 0) ≡ true → (v * 10 + (get_or xs i 0 - 48) ≡ value_of (take (i + 1) xs)) × (i + 1 + run (drop (i + 1) xs) ≡ run xs)
   goes h e = (
     omega (arith, fold_more (λ a d. a * 10 + (d - 48)) 0 xs i 0 h),
     omega (arith, prefix_len-drop_yes is_digit xs i 0 h e),
   )
+
+  pub beyond : i < length xs → is_digit (get_or xs i 0) ≡ true → within_16_bits (v * 10 + (get_or xs i 0 - 48)) (v * 10 + (get_or xs i 0 - 48)) ≡ None → None ≡ digits xs
+  beyond h e none =
+      let next = v * 10 + (get_or xs i 0 - 48) in
+      let large : 65536 ≤ next = ltb-false next 65536 (not_held (ltb next 65536) next none) in
+      let g = goes h e in
+      let more = value_le (i + 1) 0 (take (run xs) xs) in
+      sym (cond-false (ltb (number xs) 65536) _ _ (le-ltb (number xs) 65536 (omega (arith, g.0, ap value_of (take-take (i + 1) (run xs) xs (omega (arith, g.1))), more))))

@@ -1,8 +1,8 @@
 -- What a slip holds after a word is posted and after it is written. Assumes nothing.
-use Rattle.std.proofs.Common.{◌≡◌, ℕ, ◌+◌, ◌-◌, ◌*◌, ◌/◌, ◌%◌, ◌^◌, ◌<◌, ◌≤◌, max, Bool, true, false, ◌&&◌, ◌||◌, eqb, [], length, get_or, set, IfOk, Some, None, Ok, Err, Option, Result, sym, refl, ap, ◌∙◌, ap₂, ⊎_elim, mul-le-mul_left, one-mul, arith, lit≤}
-use native.Mathlib.Nat.{div-eq_of_lt}
-use lib.Bits.{bit_or, or_step}
-use Rattle.std.proofs.lemmas.Nat.{or_shr, pow_below, shl-shr, pow-add}
+use Rattle.std.proofs.Common.{w16, ◌≡◌, ℕ, ◌+◌, ◌-◌, ◌*◌, ◌/◌, ◌%◌, ◌^◌, ◌<◌, ◌≤◌, max, Bool, true, false, ◌&&◌, ◌||◌, eqb, [], length, get_or, set, IfOk, Some, None, Ok, Err, Option, Result, sym, refl, ap, ◌∙◌, ap₂, ⊎_elim, mul-le-mul_left, one-mul, arith, lit≤}
+use lib.Bits.{bit_or}
+use Rattle.std.proofs.Math.Bool.{or-true, or-false}
+use Rattle.std.proofs.lemmas.Nat.Bits.{bit_at_set_same, bit_at_set_other}
 use Rattle.std.proofs.lemmas.List.{get_or-set_same, get_or-set_other}
 use Rattle.std.proofs.lemmas.Bool.{eq-eqb, ne_eqb, cases_eq, cases_order}
 use Rattle.wire.specs.declared.fault.FrameFault.{FrameFault}
@@ -16,12 +16,11 @@ use Rattle.wire.proofs.Outcomes.{ok_same, ok_not_err}
 use Rattle.wire.specs.Limits.{max_kind, max_value, frame_max}
 use Rattle.wire.proofs.Counting.{frames_weigh}
 use Rattle.wire.proofs.FrameText.{Ranges, carried_ranges, ranges_carried, frame_max_length, word_reads}
-use Rattle.wire.proofs.Ranging.{none_ranges}
 
--- a frame can carry the address where a word's own check found no fault
-pub address_sound : (p : Posted) (w : Word) → w ≡ word_of p 1 0 → range_fault w ≡ None → addressed p ≡ true
+-- a frame can carry the address of a word that it can carry
+pub address_sound : (p : Posted) (w : Word) → w ≡ word_of p 1 0 → Ranges w → addressed p ≡ true
 unfolding addressed
-address_sound p w is none = ranges_carried (word_of p 1 0) (none_ranges (word_of p 1 0) (ap range_fault (sym is) ∙ none))
+address_sound p w is r = ap carried (sym is) ∙ ranges_carried w r
 
 -- the address alone decides
 pub same_address : (p q : Posted) → q.group ≡ p.group → q.change ≡ p.change → q.sender ≡ p.sender → addressed p ≡ true → addressed q ≡ true
@@ -47,52 +46,29 @@ pub none_posted_none : (g c s : ℕ) → words_of (none_posted g c s) ≡ []
 unfolding words_of words_of_kind
 none_posted_none g c s = refl
 
-or_odd : (a b : ℕ) → bit_or a b % 2 ≡ max (a % 2) (b % 2)
-or_odd a b = let e = or_step a b in omega arith
-
-max_odd : (x y : ℕ) → x < 2 → y < 2 → eqb (max x y) 1 ≡ (eqb x 1 || eqb y 1)
-max_odd x y p q = grind arith
-
-has_or : (m b u : ℕ) → has (bit_or m b) u ≡ (has m u || has b u)
-has_or m b u =
-    ap (λ (x : ℕ). eqb (x % 2) 1) (or_shr m b u)
-    ∙ ap (λ (x : ℕ). eqb x 1) (or_odd (m / 2 ^ u) (b / 2 ^ u))
-    ∙ max_odd (m / 2 ^ u % 2) (b / 2 ^ u % 2) (omega arith) (omega arith)
-
--- the value v adds 2 to the power v, and so is the one value there
-has_bit : (v u : ℕ) → has (2 ^ v) u ≡ eqb u v
-has_bit v u = ⊎_elim
-    (λ e. ap (λ k. has (2 ^ v) k) e ∙ ap (λ (x : ℕ). eqb (x % 2) 1) (ap (λ (x : ℕ). x / 2 ^ v) (sym (one-mul (2 ^ v))) ∙ shl-shr 1 v) ∙ sym (eq-eqb u v e))
-    (⊎_elim
-    (λ lt.
-    let parts : v ≡ 1 + (v - u - 1) + u = omega arith in
-    let quotient : 2 ^ v / 2 ^ u ≡ 2 ^ (1 + (v - u - 1)) = ap (λ k. 2 ^ k / 2 ^ u) parts ∙ ap (λ (x : ℕ). x / 2 ^ u) (pow-add 2 (1 + (v - u - 1)) u) ∙ shl-shr (2 ^ (1 + (v - u - 1))) u in
-    let even : 2 ^ (1 + (v - u - 1)) ≡ 2 * 2 ^ (v - u - 1) = pow-add 2 1 (v - u - 1) in
-    let odd : (2 ^ v / 2 ^ u % 2 ≡ 1) → ⊥ = λ o. omega arith in
-    ne_eqb (2 ^ v / 2 ^ u % 2) 1 odd ∙ sym (ne_eqb u v (λ e. omega arith)))
-    (λ gt.
-    let none : 2 ^ v / 2 ^ u ≡ 0 = div-eq_of_lt (pow_below v u gt) in
-    ap (λ (x : ℕ). eqb (x % 2) 1) none ∙ sym (ne_eqb u v (λ e. omega arith))))
-    (cases_order u v)
+-- a set with one value more
+value_added : (m v u : ℕ) → v < 16 → has (bit_or m (1 * 2 ^ v % 65536)) u ≡ (has m u || eqb u v)
+value_added m v u fits = ⊎_elim
+    (λ e. ap (λ k. has (bit_or m (1 * 2 ^ v % 65536)) k) e ∙ ap (λ (x : ℕ). eqb x 1) (bit_at_set_same w16 m v fits) ∙ sym (ap (λ b. has m u || b) (eq-eqb u v e) ∙ or-true (has m u)))
+    (λ ne. ap (λ (x : ℕ). eqb x 1) (bit_at_set_other w16 m v fits u ne) ∙ sym (ap (λ b. has m u || b) (ne_eqb u v ne) ∙ or-false (has m u)))
+    (cases_eq u v)
 
 -- with one word more on it, a slip holds that word and those it held
-pub word_added : (p : Posted) (kind value : ℕ) → 1 ≤ kind → kind ≤ 5 → length p.kinds ≡ 5 → OneMore p (with_word p kind value) kind value
-word_added p kind value low high five k v l h = ⊎_elim
+pub word_added : (p : Posted) (kind value : ℕ) → 1 ≤ kind → kind ≤ 5 → value < 16 → length p.kinds ≡ 5
+    → OneMore p (record { group = p.group; change = p.change; sender = p.sender; kinds = set p.kinds (kind - 1) (bit_or (get_or p.kinds (kind - 1) 0) (1 * 2 ^ value % 65536)) }) kind value
+word_added p kind value low high fits five k v l h = ⊎_elim
     (λ e.
     let index : k - 1 ≡ kind - 1 = omega arith in
     let m = get_or p.kinds (kind - 1) 0 in
-    ap (λ i. has (get_or (set p.kinds (kind - 1) (bit_or m (2 ^ value))) i 0) v) index
-    ∙ ap (λ s. has s v) (get_or-set_same p.kinds (kind - 1) (bit_or m (2 ^ value)) 0 (omega arith))
-    ∙ has_or m (2 ^ value) v
-    ∙ ap₂ ◌||◌ (ap (λ i. has (get_or p.kinds i 0) v) (sym index)) (has_bit value v ∙ sym (ap (λ b. b && eqb v value) (eq-eqb k kind e))))
+    let more = bit_or m (1 * 2 ^ value % 65536) in
+    ap (λ i. has (get_or (set p.kinds (kind - 1) more) i 0) v) index
+    ∙ ap (λ s. has s v) (get_or-set_same p.kinds (kind - 1) more 0 (omega arith))
+    ∙ value_added m value v fits
+    ∙ ap₂ ◌||◌ (ap (λ i. has (get_or p.kinds i 0) v) (sym index)) (sym (ap (λ b. b && eqb v value) (eq-eqb k kind e))))
     (λ ne.
-    ap (λ s. has s v) (get_or-set_other p.kinds (kind - 1) (k - 1) (bit_or (get_or p.kinds (kind - 1) 0) (2 ^ value)) 0 (λ e. ne (omega arith)))
-    ∙ sym (ap (λ b. holds p k v || (b && eqb v value)) (ne_eqb k kind ne) ∙ or_none (holds p k v)))
+    ap (λ s. has s v) (get_or-set_other p.kinds (kind - 1) (k - 1) (bit_or (get_or p.kinds (kind - 1) 0) (1 * 2 ^ value % 65536)) 0 (λ e. ne (omega arith)))
+    ∙ sym (ap (λ b. holds p k v || (b && eqb v value)) (ne_eqb k kind ne) ∙ or-false (holds p k v)))
     (cases_eq k kind)
-  where
-    or_none : (b : Bool) → (b || false) ≡ b
-    or_none true = refl
-    or_none false = refl
 
 -- a slip that is made with no words holds none
 pub made_empty : (r : Result Slip FrameFault) (o : Option FrameFault) (p : Posted) → mapped (λ s. s.posted) r ≡ unless o (Ok p) → words_of p ≡ [] → IfOk r (λ s. words_of s.posted ≡ [])

@@ -1,5 +1,5 @@
 -- Fields of a frame, over the list of its bytes: which number stands at a place, or why none does. Assumes nothing.
-use Rattle.std.specs.Prelude.{ℕ, ◌+◌, ◌-◌, ◌*◌, Bool, cond, ◌&&◌, List, length, take, drop, Ok, Err, fold, Result, ◌==◌, nat_le, nat_lt, slice_index}
+use Rattle.std.specs.Prelude.{ℕ, ◌+◌, ◌-◌, ◌*◌, Bool, cond, ◌&&◌, List, length, take, drop, Some, None, Option, Ok, Err, fold, Result, ◌==◌, nat_le, nat_lt, slice_index}
 use Rattle.std.specs.List.{prefix_len}
 use Rattle.wire.specs.declared.fault.FrameFault.{FrameFault}
 use Rattle.wire.specs.Faults.{fault}
@@ -18,6 +18,14 @@ value_of ds = fold (λ n d. n * 10 + (d - 48)) 0 ds
 -- the number that the longest run at the front writes, however long it is
 abbrev pub number : List ℕ → ℕ
 number xs = value_of (take (run xs) xs)
+
+-- x, where 16 bits hold the number
+abbrev pub within_16_bits : {X : Type 0} → ℕ → X → Option X
+within_16_bits n x = cond (nat_lt n 65536) (Some x) None
+
+-- that number and the run's length, where 16 bits hold the number
+abbrev pub digits : List ℕ → Option (ℕ × ℕ)
+digits xs = within_16_bits (number xs) (number xs, run xs)
 
 -- a zero at the front that another digit follows
 abbrev pub zero_leads : List ℕ → Bool

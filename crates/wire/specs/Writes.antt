@@ -1,5 +1,5 @@
 -- What is written into a buffer, and what a refused write leaves. Assumes nothing.
-use Rattle.std.specs.Prelude.{ℕ, ◌+◌, ◌-◌, Bool, cond, List, [], ◌∷◌, ◌++◌, length, take, drop, replicate, is_ok, Some, None, Ok, Err, Option, Result, nat_le}
+use Rattle.std.specs.Prelude.{ℕ, ◌+◌, ◌-◌, Bool, cond, List, [], ◌∷◌, ◌++◌, length, drop, replicate, is_ok, Some, None, Ok, Err, Option, Result, nat_le}
 use Rattle.wire.specs.declared.fault.FrameFault.{FrameFault}
 use Rattle.wire.specs.declared.word.Word.{Word}
 use Rattle.wire.specs.Faults.{fault}
@@ -7,9 +7,9 @@ use Rattle.wire.specs.Fields.{is_within}
 use Rattle.wire.specs.Frames.{field_bytes, frame_of}
 use Rattle.wire.specs.Limits.{max_id, max_sender, max_kind, max_value, comma}
 
--- a buffer with bytes put over it from a place on
-abbrev pub put_at : ℕ → List ℕ → List ℕ → List ℕ
-put_at at bytes old = take at old ++ (bytes ++ drop (at + length bytes) old)
+-- a buffer with bytes put over its front
+abbrev pub put_front : List ℕ → List ℕ → List ℕ
+put_front bytes old = bytes ++ drop (length bytes) old
 
 -- bytes, and then zero bytes to the end of the room
 abbrev pub zero_filled : List ℕ → ℕ → List ℕ
@@ -26,6 +26,10 @@ fitting bytes room = cond (nat_le (length bytes) room) (Ok (length bytes)) (Err 
 abbrev pub unless : {X : Type 0} → Option FrameFault → Result X FrameFault → Result X FrameFault
 unless None r = r
 unless (Some f) r = Err f
+
+-- the place after a number's field that begins at p, where the number is in its range
+abbrev pub place_behind : ℕ → ℕ → ℕ → ℕ → Result ℕ FrameFault
+place_behind n low high p = cond (is_within low high n) (Ok (p + length (field_bytes n comma))) (Err (fault 13 p))
 
 -- the fault of the first test that fails
 abbrev pub first_failed : List (Bool × FrameFault) → Option FrameFault

@@ -20,13 +20,12 @@ pub enum FrameFault {
     ShortBuffer,
 }
 
-impl FrameFault {
-    // What is told of the fault. Number and place determine it.
-    pub fn refusal(&self) -> Refusal
-        ensures value { result ≡ refusal_of self.now }
-        ensures determines { fault result.number (or_zero result.place) ≡ self.now }
-    {
-        let (number, place) = match *self {
+// What is told of the fault. Number and place determine it.
+impl From<FrameFault> for Refusal {
+    ghost from_gives = { λ e r. (r ≡ refusal_of e) × (fault r.number (or_zero r.place) ≡ e) };
+
+    fn from(fault: FrameFault) -> Refusal {
+        let (number, place) = match fault {
             FrameFault::NoDigit(place) => (11, Some(place)),
             FrameFault::LeadingZero(place) => (12, Some(place)),
             FrameFault::OutOfRange(place) => (13, Some(place)),

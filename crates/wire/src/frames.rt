@@ -1,85 +1,69 @@
 // The frames of the words that a board has posted, put one after the other.
-ghost use Rattle.std.specs.Prelude.{◌≡◌, ℕ, ◌+◌, ◌<◌, ◌≤◌, length};
+ghost use Rattle.std.specs.Prelude.{◌≡◌, ℕ, ◌≤◌, length};
 ghost use Rattle.std.specs.List.{flat_map};
 ghost use Rattle.wire.specs.Frames.{frame_of};
-ghost use Rattle.wire.specs.Slips.{has, words_of, if_held, words_of_kind, frames_of};
-ghost use Rattle.wire.specs.Writes.{put_at};
+ghost use Rattle.wire.specs.Slips.{words_of, words_of_kind, frames_of};
+ghost use Rattle.wire.specs.Writes.{put_front};
 
 use crate::limits::MAX_VALUE;
-use crate::posted::{KINDS, Posted, word_of};
+use crate::posted::{KINDS, Posted};
 use crate::write::{frame_len, put_frame};
 
 // How many values a word can have, 0 included.
-const VALUES: u16 = MAX_VALUE + 1;
+const VALUES: u8 = MAX_VALUE as u8 + 1;
 
 // How many sets of values there are.
 const VALUE_SETS: u16 = 1 << VALUES;
 
-// Whether the set has the value.
-fn has(set: u16, value: u16) -> bool
-    requires { value < 16 }
-    ensures { result ≡ has set value }
-{
-    (set >> value) % 2 == 1
-}
-
-// Puts the frame of the word of this kind and value, where it is posted, and answers the place after it.
-fn put_held(posted: &Posted, kind: u8, value: u8, buf: &mut [u8], at: usize) -> usize
-    requires kind { (kind < 6) × (0 < kind) }
-    requires value { value < 9 }
-    requires room { at + length (flat_map frame_of (if_held posted.now kind value)) ≤ length buf.old }
-    ensures value { result ≡ at + length (flat_map frame_of (if_held posted.now kind value)) }
-    ensures buffer { buf.new ≡ put_at at (flat_map frame_of (if_held posted.now kind value)) buf.old }
-{
-    let index = kind - 1;
-    if !has(posted.kinds[index as usize], value as u16) {
-        return at;
+impl Posted {
+    // Puts the frames of one kind at the front, by value, and answers how many bytes they have.
+    fn put_kind(&self, kind: u8, buf: &mut [u8]) -> usize
+        requires kind { (1 ≤ kind) × (kind ≤ 5) }
+        requires room { length (flat_map frame_of (words_of_kind self.now kind)) ≤ length buf.old }
+        ensures value { result ≡ length (flat_map frame_of (words_of_kind self.now kind)) }
+        ensures buffer { buf.new ≡ put_front (flat_map frame_of (words_of_kind self.now kind)) buf.old }
+    {
+        let values = self.kinds[(kind - 1) as usize];
+        if values % VALUE_SETS == 0 {
+            return 0;
+        }
+        let mut len = 0;
+        for value in 0..VALUES {
+            if (values >> value) % 2 == 1 {
+                len += put_frame(self.word(kind, value), &mut buf[len..]);
+            }
+        }
+        len
     }
-    put_frame(word_of(posted, kind, value), buf, at)
-}
 
-// Puts the frames of one kind, by value, and answers the place after them.
-fn put_kind(posted: &Posted, kind: u8, buf: &mut [u8], at: usize) -> usize
-    requires kind { (kind < 6) × (0 < kind) }
-    requires room { at + length (flat_map frame_of (words_of_kind posted.now kind)) ≤ length buf.old }
-    ensures value { result ≡ at + length (flat_map frame_of (words_of_kind posted.now kind)) }
-    ensures buffer { buf.new ≡ put_at at (flat_map frame_of (words_of_kind posted.now kind)) buf.old }
-{
-    let mut place = at;
-    for value in 0..VALUES as u8 {
-        place = put_held(posted, kind, value, buf, place);
+    // Puts all frames from the front of the buffer on, by kind and then value, and answers how many bytes they have.
+    pub(crate) fn put_frames(&self, buf: &mut [u8]) -> usize
+        requires { length (frames_of self.now) ≤ length buf.old }
+        ensures value { result ≡ length (frames_of self.now) }
+        ensures buffer { buf.new ≡ put_front (frames_of self.now) buf.old }
+    {
+        let mut len = 0;
+        for kind in 1..=KINDS as u8 {
+            len += self.put_kind(kind, &mut buf[len..]);
+        }
+        len
     }
-    place
-}
 
-// Puts all frames from the front of the buffer on, by kind and then value, and answers the place after them.
-pub(crate) fn put_frames(posted: &Posted, buf: &mut [u8]) -> usize
-    requires { length (frames_of posted.now) ≤ length buf.old }
-    ensures value { result ≡ 0 + length (frames_of posted.now) }
-    ensures buffer { buf.new ≡ put_at 0 (frames_of posted.now) buf.old }
-{
-    let mut place = 0;
-    for index in 0..KINDS as u8 {
-        place = put_kind(posted, index + 1, buf, place);
+    // How many words are posted.
+    pub(crate) fn count(&self) -> usize
+        ensures value { result ≡ length (words_of self.now) }
+        ensures bound { result ≤ 45 }
+    {
+        self.kinds
+            .iter()
+            .map(|values| (values % VALUE_SETS).count_ones() as usize)
+            .sum()
     }
-    place
-}
 
-// How many words are posted.
-pub(crate) fn count(posted: &Posted) -> usize
-    ensures value { result ≡ length (words_of posted.now) }
-    ensures bound { result ≤ 45 }
-{
-    let mut words = 0;
-    for index in 0..KINDS {
-        words += (posted.kinds[index] % VALUE_SETS).count_ones() as usize;
+    // How many bytes their frames have: all are of one length, since a kind and a value are one digit each.
+    pub(crate) fn frames_len(&self) -> usize
+        ensures { result ≡ length (frames_of self.now) }
+    {
+        self.count() * frame_len(self.word(1, 0))
     }
-    words
-}
-
-// How many bytes their frames have: all are of one length, since a kind and a value are one digit each.
-pub(crate) fn frames_len(posted: &Posted) -> usize
-    ensures { result ≡ length (frames_of posted.now) }
-{
-    count(posted) * frame_len(word_of(posted, 1, 0))
 }

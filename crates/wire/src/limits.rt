@@ -1,7 +1,4 @@
 // The numbers that a frame can carry, field by field. The least group, change and kind is 1, the least sender and value 0.
-ghost use Rattle.std.specs.Prelude.{◌≡◌};
-ghost use Rattle.wire.specs.Fields.{is_within};
-
 // The largest group and the largest change.
 pub const MAX_ID: u16 = 65535;
 
@@ -14,9 +11,3 @@ pub const MAX_VALUE: u16 = 8;
 pub const FRAME_MAX: usize = 19;
 // The most bytes that a slip's frames have: five kinds of nine values each.
 pub const SLIP_MAX: usize = 5 * 9 * FRAME_MAX;
-
-pub(crate) fn within(low: u16, high: u16, number: u32) -> bool
-    ensures { result ≡ is_within low high number }
-{
-    low as u32 <= number && number <= high as u32
-}

@@ -1,46 +1,32 @@
-// Numbers in base ten, written from their last digit back.
-ghost use Rattle.std.specs.Prelude.{◌≡◌, ℕ, ◌+◌, ◌≤◌, length, decimal};
-ghost use Rattle.wire.specs.Writes.{put_at};
+// Numbers in base ten.
+ghost use Rattle.std.specs.Prelude.{◌≡◌, ℕ, ◌≤◌, length, decimal};
 ghost use Rattle.wire.specs.Frames.{field_bytes};
+ghost use Rattle.wire.specs.Writes.{put_front};
+
+use itoa::write_digits;
 
 // How many digits the number has.
 pub(crate) fn width(number: u16) -> usize
     ensures value { result ≡ length (decimal number) }
     ensures bound { result ≤ 5 }
 {
-    let mut digits = 1;
-    let mut left = number;
-    while left >= 10 {
-        left /= 10;
-        digits += 1;
+    match number {
+        0..=9 => 1,
+        10..=99 => 2,
+        100..=999 => 3,
+        1000..=9999 => 4,
+        _ => 5,
     }
-    digits
 }
 
-// Puts the number at a place, and answers the place after it.
-fn put_number(number: u16, buf: &mut [u8], at: usize) -> usize
-    requires { at + length (decimal number) ≤ length buf.old }
-    ensures value { result ≡ at + length (decimal number) }
-    ensures buffer { buf.new ≡ put_at at (decimal number) buf.old }
+// Puts the number and the byte that ends its field at the front, and answers how many bytes they are.
+pub(crate) fn put_field(number: u16, end: u8, buf: &mut [u8]) -> usize
+    requires { length (field_bytes number end) ≤ length buf.old }
+    ensures value { result ≡ length (field_bytes number end) }
+    ensures buffer { buf.new ≡ put_front (field_bytes number end) buf.old }
 {
     let digits = width(number);
-    let mut left = number;
-    let mut j = digits;
-    while j > 0 {
-        j -= 1;
-        buf[at + j] = b'0' + (left % 10) as u8;
-        left /= 10;
-    }
-    at + digits
-}
-
-// Puts the number and the byte that ends its field, and answers the place after it.
-pub(crate) fn put_field(number: u16, end: u8, buf: &mut [u8], at: usize) -> usize
-    requires { at + length (field_bytes number end) ≤ length buf.old }
-    ensures value { result ≡ at + length (field_bytes number end) }
-    ensures buffer { buf.new ≡ put_at at (field_bytes number end) buf.old }
-{
-    let place = put_number(number, buf, at);
-    buf[place] = end;
-    place + 1
+    write_digits(number as u64, buf, digits);
+    buf[digits] = end;
+    digits + 1
 }

@@ -1,6 +1,5 @@
 // The words that one board has posted of one change, as a set.
 ghost use Rattle.std.specs.Prelude.{◌≡◌, ℕ, ◌≤◌};
-ghost use Rattle.wire.specs.Slips.{word_of, none_posted, with_word, OneMore};
 
 use crate::word::Word;
 
@@ -16,44 +15,48 @@ pub struct Posted {
     pub kinds: [u16; KINDS],
 }
 
-// Nothing posted yet.
-pub(crate) fn none_posted(group: u16, change: u16, sender: u8) -> Posted
-    ensures { result ≡ none_posted group change sender }
-{
-    Posted {
-        group,
-        change,
-        sender,
-        kinds: [0; KINDS],
-    }
-}
+impl Posted {
+    ghost use Rattle.wire.specs.Slips.{word_of, none_posted, emptied, with_word, OneMore};
 
-// The word of this kind and value that the board posts of the change.
-pub(crate) fn word_of(posted: &Posted, kind: u8, value: u8) -> Word
-    ensures { result ≡ word_of posted.now kind value }
-{
-    Word {
-        group: posted.group,
-        change: posted.change,
-        sender: posted.sender,
-        kind,
-        value,
+    // Nothing posted yet.
+    pub(crate) fn none(group: u16, change: u16, sender: u8) -> Posted
+        ensures { result ≡ none_posted group change sender }
+    {
+        Posted {
+            group,
+            change,
+            sender,
+            kinds: [0; KINDS],
+        }
     }
-}
 
-// The word of this kind and value posted too.
-pub(crate) fn with_word(posted: &Posted, kind: u8, value: u8) -> Posted
-    requires { (1 ≤ kind) × ((kind ≤ 5) × (value ≤ 8)) }
-    ensures value { result ≡ with_word posted.now kind value }
-    ensures one_more { OneMore posted.now result kind value }
-{
-    let mut kinds = posted.kinds;
-    let index = (kind - 1) as usize;
-    kinds[index] = kinds[index] | 1 << value;
-    Posted {
-        group: posted.group,
-        change: posted.change,
-        sender: posted.sender,
-        kinds,
+    // The word of this kind and value that the board posts of the change.
+    pub(crate) fn word(&self, kind: u8, value: u8) -> Word
+        ensures { result ≡ word_of self.now kind value }
+    {
+        Word {
+            group: self.group,
+            change: self.change,
+            sender: self.sender,
+            kind,
+            value,
+        }
+    }
+
+    // Posts the word of this kind and value too.
+    pub(crate) fn post(&mut self, kind: u8, value: u8)
+        requires { (1 ≤ kind) × ((kind ≤ 5) × (value ≤ 8)) }
+        ensures value { self.new ≡ with_word self.old kind value }
+        ensures one_more { OneMore self.old self.new kind value }
+    {
+        let index = (kind - 1) as usize;
+        self.kinds[index] |= 1 << value;
+    }
+
+    // Takes all words off again.
+    pub(crate) fn clear(&mut self)
+        ensures { self.new ≡ emptied self.old }
+    {
+        self.kinds = [0; KINDS];
     }
 }

@@ -1,12 +1,8 @@
 // Reads fields straight from the bytes that a port brought.
-ghost use Rattle.std.specs.Prelude.{◌≡◌, ℕ, ◌+◌, ◌≤◌, min, length, IfOk};
-ghost use Rattle.wire.specs.Fields.{run, number, is_digit, zero_leads, field_at, after_byte, place_after};
+ghost use Rattle.std.specs.Prelude.{◌≡◌, ℕ, ◌+◌, ◌*◌, ◌≤◌, length, IfOk};
+ghost use Rattle.wire.specs.Fields.{within_16_bits, digits, zero_leads, field_at, after_byte, place_after};
 
 use crate::fault::FrameFault;
-use crate::limits::within;
-
-// The least number beyond every field's range.
-const BEYOND: u32 = 65536;
 
 // The bytes of a port, and the place up to which they are read.
 #[derive(Clone, Copy)]
@@ -32,18 +28,17 @@ impl<'a> Reader<'a> {
         ensures same { self.new.bytes.now ≡ self.old.bytes.now }
     {
         let rest = &self.bytes[self.place..];
-        let (number, len) = digits(rest);
-        if len == 0 {
-            return Err(FrameFault::NoDigit(self.place));
-        }
         if zero_leads(rest) {
             return Err(FrameFault::LeadingZero(self.place));
         }
-        if !within(low, high, number) {
-            return Err(FrameFault::OutOfRange(self.place));
+        match digits(rest) {
+            Some((_, 0)) => Err(FrameFault::NoDigit(self.place)),
+            Some((number, len)) if (low..=high).contains(&number) => {
+                self.place += len;
+                Ok((number, self.place))
+            }
+            _ => Err(FrameFault::OutOfRange(self.place)),
         }
-        self.place += len;
-        Ok((number as u16, self.place))
     }
 
     // Passes the byte that has to stand here, and answers the place after it.
@@ -52,10 +47,7 @@ impl<'a> Reader<'a> {
         ensures place { self.new.place ≡ place_after (λ x. x) result self.old.place }
         ensures same { self.new.bytes.now ≡ self.old.bytes.now }
     {
-        if self.place >= self.bytes.len() {
-            return Err(FrameFault::WrongByte(self.place));
-        }
-        if self.bytes[self.place] != byte {
+        if self.bytes.get(self.place) != Some(&byte) {
             return Err(FrameFault::WrongByte(self.place));
         }
         self.place += 1;
@@ -63,34 +55,33 @@ impl<'a> Reader<'a> {
     }
 }
 
-fn is_digit(byte: u8) -> bool
-    ensures { result ≡ is_digit byte }
-{
-    b'0' <= byte && byte <= b'9'
-}
-
 // Whether a zero stands at the front, and another digit behind it.
 fn zero_leads(bytes: &[u8]) -> bool
     ensures { result ≡ zero_leads bytes.now }
 {
-    if bytes.len() < 2 {
-        return false;
+    match bytes {
+        [b'0', next, ..] => next.is_ascii_digit(),
+        _ => false,
     }
-    bytes[0] == b'0' && is_digit(bytes[1])
 }
 
-// The number that the longest run of digits at the front writes, or `BEYOND` where it is larger, and the run's length.
-fn digits(bytes: &[u8]) -> (u32, usize)
-    ensures value { result.0 ≡ min (number bytes.now) 65536 }
-    ensures len { result.1 ≡ run bytes.now }
+// The number that the longest run of digits at the front writes, and the run's length, where 16 bits hold the number.
+fn digits(bytes: &[u8]) -> Option<(u16, usize)>
+    ensures { result ≡ digits bytes.now }
 {
-    let mut number = 0u32;
-    for i in 0..bytes.len() {
-        let byte = bytes[i];
-        if !is_digit(byte) {
-            return (number, i);
+    let mut number = 0;
+    for (i, byte) in bytes.iter().enumerate() {
+        if !byte.is_ascii_digit() {
+            return Some((number, i));
         }
-        number = (number * 10 + (byte - b'0') as u32).min(BEYOND);
+        number = with_digit(number, byte - b'0')?;
     }
-    (number, bytes.len())
+    Some((number, bytes.len()))
+}
+
+// The number with a digit more behind it, where 16 bits hold it.
+fn with_digit(number: u16, digit: u8) -> Option<u16>
+    ensures { result ≡ within_16_bits (number * 10 + digit) (number * 10 + digit) }
+{
+    u16::try_from(number as u32 * 10 + digit as u32).ok()
 }

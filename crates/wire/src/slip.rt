@@ -5,8 +5,7 @@ ghost use Rattle.wire.specs.Writes.{range_fault, unless, fitting, buffer_after};
 
 use crate::fault::FrameFault;
 use crate::posted::Posted;
-use crate::write::{clear_from, range_fault};
-use crate::{frames, posted};
+use crate::write::check_ranges;
 
 pub struct Slip {
     posted: Posted,
@@ -28,16 +27,14 @@ impl Slip {
         ensures value { mapped (λ s. s.posted) result ≡ slip_made group change sender }
         ensures no_words { IfOk result (λ s. words_of s.posted ≡ []) }
     {
-        Slip::holding(posted::none_posted(group, change, sender))
+        Slip::holding(Posted::none(group, change, sender))
     }
 
     // A slip with these words. Of a set of values, what is above the largest value stands for no word.
     pub fn holding(posted: Posted) -> Result<Slip, FrameFault>
         ensures { mapped (λ s. s.posted) result ≡ unless (range_fault (word_of posted 1 0)) (Ok posted) }
     {
-        if let Some(fault) = range_fault(posted::word_of(&posted, 1, 0)) {
-            return Err(fault);
-        }
+        check_ranges(posted.word(1, 0))?;
         Ok(Slip { posted })
     }
 
@@ -45,7 +42,7 @@ impl Slip {
     pub fn count(&self) -> usize
         ensures { result ≡ length (words_of self.now.posted) }
     {
-        frames::count(&self.posted)
+        self.posted.count()
     }
 
     // Puts the word of this kind and value on the slip; or refuses, and leaves the slip as it was.
@@ -54,11 +51,8 @@ impl Slip {
         ensures posted { self.new.posted ≡ (if is_ok result then with_word self.old.posted kind value else self.old.posted) }
         ensures one_word_more_and_no_other { OnOk result (OneMore self.old.posted self.new.posted kind value) }
     {
-        let posted = self.posted;
-        if let Some(fault) = range_fault(posted::word_of(&posted, kind, value)) {
-            return Err(fault);
-        }
-        self.posted = posted::with_word(&posted, kind, value);
+        check_ranges(self.posted.word(kind, value))?;
+        self.posted.post(kind, value);
         Ok(())
     }
 
@@ -75,14 +69,13 @@ impl Slip {
         ensures a_buffer_of_855_bytes_is_always_enough { 855 ≤ length buf.old → is_ok result ≡ true }
         ensures no_byte_behind_is_other_than_zero { IfOk result (λ n. (k : ℕ) → n ≤ k → slice_index buf.new k ≡ 0) }
     {
-        let posted = self.posted;
-        if buf.len() < frames::frames_len(&posted) {
+        if buf.len() < self.posted.frames_len() {
             return Err(FrameFault::ShortBuffer);
         }
-        let end = frames::put_frames(&posted, buf);
-        clear_from(buf, end);
-        self.posted = posted::none_posted(posted.group, posted.change, posted.sender);
-        Ok(end)
+        let len = self.posted.put_frames(buf);
+        buf[len..].fill(0);
+        self.posted.clear();
+        Ok(len)
     }
 
     // Writes the slip and lets it go; or hands it back as it was, with the refusal.

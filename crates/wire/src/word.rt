@@ -1,5 +1,6 @@
 // A word: what one board says of one change to its group.
 
+// The numbers stay as wide as they are: a word that no frame can carry is refused, not ruled out by its type.
 #[derive(Clone, Copy, PartialEq, Eq, Debug)]
 pub struct Word {
     pub group: u16,

@@ -68,7 +68,7 @@ mod tests {
 
     #[test]
     fn a_refusal_tells_number_place_and_layer(rt: HostRuntime) {
-        let told = FrameFault::LeadingZero(4).refusal();
+        let told = Refusal::from(FrameFault::LeadingZero(4));
         assert_eq!(rt;
             told,
             Refusal {

@@ -1,43 +1,30 @@
-use Rattle.std.proofs.Common.{sym, refl, ◌∙◌, arith, rules}
-use Rattle.wire.proofs.FieldRead.{field_none, field_zero, field_out, field_good, run_inside}
+use Rattle.std.proofs.Common.{◌≡◌, true, false, sym, ◌∙◌, arith}
+use Rattle.wire.specs.Fields.{is_within}
+use Rattle.wire.proofs.FieldRead.{field_none, field_zero, field_beyond, field_out, field_good, run_inside}
 use Rattle.wire.proofs.reader.Reader.field.Goals as goal
+use Rattle.wire.proofs.reader.Reader.field.Goals.{in_default-via-in-Some+else-contains, in_default-via-in_default}
 
-pub returns-then-len-eq0 : goal.returns-then-len-eq0
-returns-then-len-eq0 c = record {
-  value = field_none c.args.self.now.bytes.now c.args.self.now.place _ _ c.args.low c.args.high c.digits-number.ensures.value c.digits-number.ensures.len c.if-len-eq0.true;
-  range = tt;
-  place = search rules;
-  same = search rules;
-}
+pub returns-then-zero_leads-clause-value : goal.returns-then-zero_leads-clause-value
+returns-then-zero_leads-clause-value c = field_zero c.args.self.now.bytes.now c.args.self.now.place c.args.low c.args.high (sym c.zero_leads.ensures ∙ c.if-zero_leads.true)
 
-pub returns-then-zero_leads : goal.returns-then-zero_leads
-returns-then-zero_leads c = record {
-  value = field_zero c.args.self.now.bytes.now c.args.self.now.place _ _ c.args.low c.args.high c.digits-number.ensures.value c.digits-number.ensures.len c.if-len-eq0.false
-      (sym c.zero_leads.ensures ∙ c.if-zero_leads.true);
-  range = tt;
-  place = search rules;
-  same = search rules;
-}
+pub returns-in-Some-default-eq0-clause-value : goal.returns-in-Some-default-eq0-clause-value
+returns-in-Some-default-eq0-clause-value c =
+    let none = c.in-Some-default-eq0 in
+    field_none c.args.self.now.bytes.now c.args.self.now.place c.args.low c.args.high c.digits.result c.digits.ensures none.field-0-0 none.field-0-1 none.is none.field-0-1-test
 
-pub returns-then-not-within : goal.returns-then-not-within
-returns-then-not-within c = record {
-  value = field_out c.args.self.now.bytes.now c.args.self.now.place _ _ c.args.low c.args.high c.digits-number.ensures.value c.digits-number.ensures.len c.if-len-eq0.false
-      (sym c.zero_leads.ensures ∙ c.if-zero_leads.false) (omega arith) (omega arith) (sym c.within.ensures ∙ c.if-not-within.true);
-  range = tt;
-  place = search rules;
-  same = search rules;
-}
+pub returns-in-Some-clause-value : goal.returns-in-Some-clause-value
+returns-in-Some-clause-value c =
+    let inside : is_within c.args.low c.args.high c.in-Some.number ≡ true = grind arith in
+    field_good c.args.self.now.bytes.now c.args.self.now.place c.args.low c.args.high c.digits.result c.digits.ensures
+    (sym c.zero_leads.ensures ∙ c.if-zero_leads.false) c.in-Some.number c.in-Some.len c.in-Some.is c.in-Some.len-test.1 inside
 
-pub overflow_add-self : goal.overflow_add-self
-overflow_add-self c =
-    let r = run_inside c.args.self.now.bytes.now c.args.self.now.place _ _ c.args.low c.args.high c.digits-number.ensures.value c.digits-number.ensures.len c.args.self.now.inside in
-    search rules
-
-pub invariant_of-self : goal.invariant_of-self
-invariant_of-self c = record { inside = run_inside c.args.self.now.bytes.now c.args.self.now.place _ _ c.args.low c.args.high c.digits-number.ensures.value c.digits-number.ensures.len c.args.self.now.inside }
-
-pub returns : goal.returns
-returns c =
-    let r = field_good c.args.self.now.bytes.now c.args.self.now.place c.digits-number.result.0 c.digits-number.result.1 c.args.low c.args.high c.digits-number.ensures.value c.digits-number.ensures.len c.if-len-eq0.false
-    (sym c.zero_leads.ensures ∙ c.if-zero_leads.false) (omega arith) (omega arith) (sym c.within.ensures ∙ c.if-not-within.false) in
-    record { value = r.0; range = (r.1, r.2); place = refl; same = refl }
+pub returns-in_default-clause-value : goal.returns-in_default-clause-value
+returns-in_default-clause-value c = elim c.in_default.branch [
+  | in_default-via-in-Some+else-contains w ↦
+      let outside : is_within c.args.low c.args.high w.in-Some.number ≡ false = grind arith in
+      field_out c.args.self.now.bytes.now c.args.self.now.place c.args.low c.args.high c.digits.result c.digits.ensures
+      (sym c.zero_leads.ensures ∙ c.if-zero_leads.false) w.in-Some.number w.in-Some.len w.in-Some.is w.in-Some.len-test.1 outside
+  | in_default-via-in_default w ↦
+      field_beyond c.args.self.now.bytes.now c.args.self.now.place c.args.low c.args.high c.digits.result c.digits.ensures
+      (sym c.zero_leads.ensures ∙ c.if-zero_leads.false) (omega arith) w.in_default.is
+]
