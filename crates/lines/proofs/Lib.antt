@@ -1,7 +1,5 @@
-pub mod Scan
-pub mod Cuts
+pub mod Room
 pub mod Forging
-pub mod Calling
 pub mod MarkedCases
 pub mod Spelling
 pub mod Writing

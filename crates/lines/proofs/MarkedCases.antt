@@ -1,7 +1,7 @@
 -- The marked cases, each by computing. Assumes nothing.
 use Rattle.std.proofs.Common.{refl}
 use Rattle.lines.specs.Lines.{call_in}
-use Rattle.lines.specs.Parts.{numbers_in}
+use Rattle.numerals.specs.Numerals.{numbers_in}
 use Rattle.lines.specs.Marked.{MarkedCasesHold}
 
 pub marked_cases_hold : MarkedCasesHold

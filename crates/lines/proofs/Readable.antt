@@ -1,15 +1,20 @@
 -- The line that a call is written as is read as that call. Assumes nothing.
-use Rattle.std.proofs.Common.{◌≡◌, ℕ, ◌+◌, ◌-◌, ◌*◌, ◌/◌, ◌%◌, ◌<◌, ◌≤◌, true, false, eqb, ltb, List, [], ◌∷◌, ◌++◌, length, get_or, take, Some, None, decimal, Option, sym, refl, ap, ◌∙◌, subst, ap₂, append_assoc, append-nil, arith, length-append}
-use Rattle.std.specs.List.{AllByRecursion}
+use Rattle.std.proofs.Common.{◌≡◌, ℕ, ◌+◌, ◌-◌, ◌*◌, ◌/◌, ◌%◌, ◌<◌, ◌≤◌, true, false, eqb, ltb, List, [], ◌∷◌, ◌++◌, length, get_or, take, drop, Some, None, decimal, Option, sym, refl, ap, ◌∙◌, drop-drop, subst, ap₂, append_assoc, append-nil, arith, length-append}
+use Rattle.std.specs.List.{All, AllByRecursion, position, position_or_len}
 use Rattle.std.proofs.Math.Seq.{take-append_seam, drop-append_seam, get_or-append_seam}
 use Rattle.std.proofs.lemmas.Fmt.{decimal_by_steps}
-use Rattle.std.proofs.lemmas.List.Elements.{recursion_from_All}
+use Rattle.std.proofs.lemmas.List.{get_or_append_left}
+use Rattle.std.proofs.lemmas.List.Elements.{recursion_from_All, All-nil, All-cons, All-append}
+use Rattle.std.proofs.lemmas.List.Splits.{slice_split_none, slice_split_at}
+use Rattle.std.proofs.lemmas.List.Sums.{position_or_len_is}
 use Rattle.std.proofs.lemmas.Bool.{eq-eqb, ne_eqb, lt-ltb, le-leb, and_from, cond-true}
 use Rattle.vote.specs.declared.Method.{Method}
 use Rattle.vote.specs.declared.Method.TheVariants.{Plain, Echo}
-use Rattle.lines.specs.Parts.{comma, max_number, and_then, digit, with_digit, number_on, number_in, before_comma, after_comma, further_parts, numbers_in, field_in}
+use Rattle.numerals.specs.Numerals.{comma, max_number, and_then, digit, with_digit, number_on, number_in, each_number, parts, numbers_in}
+use Rattle.lines.specs.Parts.{field_in}
+use Rattle.vote.specs.Conversions.{method_of}
 use Rattle.lines.specs.Calls.{Failing, by_count, by_sets, Opening, Call, unreadable, opens, starts_board, carries, forges}
-use Rattle.lines.specs.Lines.{line_feed, max_line, open_by_count_letter, open_by_sets_letter, start_letter, carry_letter, forge_letter, readable, lettered, method_of, open_by_count, open_by_sets, opened_in, start_with, carry_with, forged_in, whole, body, call_by, call_in}
+use Rattle.lines.specs.Lines.{line_feed, max_line, open_by_count_letter, open_by_sets_letter, start_letter, carry_letter, forge_letter, readable, lettered, open_by_count, open_by_sets, opened_in, start_with, carry_with, forged_in, whole, body, call_by, call_in}
 use Rattle.lines.specs.Texts.{letter_of, listed, opening_numbers, opening_text, numbers_of, text_of}
 use Rattle.lines.specs.Readable.{WellFormed, EachCallIsReadable}
 use Rattle.lines.proofs.Spelling.{then_some}
@@ -35,46 +40,27 @@ read_on (b ∷ p) q o w e =
 
 -- a comma is none of the bytes
 abbrev NoComma : List ℕ → Type 0
-NoComma bs = AllByRecursion (λ b. eqb b comma ≡ false) bs
-
-no_comma_append : (p q : List ℕ) → NoComma p → NoComma q → NoComma (p ++ q)
-no_comma_append [] q h k = k
-no_comma_append (b ∷ p) q h k = (h.0, no_comma_append p q h.1 k)
+NoComma bs = All (λ b. eqb b comma ≡ false) bs
 
 -- the bytes write the number, which is not too large
 abbrev Reads : ℕ → List ℕ → Type 0
 Reads n bs = n ≤ max_number → (number_in bs ≡ Some n) × NoComma bs
 
+no_comma_digit : (d : ℕ) → d < 10 → NoComma ((48 + d) ∷ [])
+no_comma_digit d h = All-cons (λ b. eqb b comma ≡ false) (48 + d) [] (ne_eqb (48 + d) comma (λ e. omega arith)) (All-nil (λ b. eqb b comma ≡ false))
+
 decimal_reads : (n : ℕ) → n ≤ max_number → (number_in (decimal n) ≡ Some n) × NoComma (decimal n)
 decimal_reads n small =
     decimal_by_steps Reads
-    (λ m l s. (ap (λ (x : Option ℕ). and_then x (λ v. Some v)) (first_digit m l), (ne_eqb (48 + m) 44 (λ e. omega arith), tt)))
+    (λ m l s. (ap (λ (x : Option ℕ). and_then x (λ v. Some v)) (first_digit m l), no_comma_digit m l))
     (λ m ds l h s.
-    let k = h (omega arith) in
-    (read_on ds ((48 + m % 10) ∷ []) None (m / 10) k.0 ∙ ap (λ (x : Option ℕ). and_then x (λ v. Some v)) (further_digit m l s), no_comma_append ds _ k.1 (ne_eqb (48 + m % 10) 44 (λ e. omega arith), tt)))
+    let k = h (omega arith) in (
+      read_on ds ((48 + m % 10) ∷ []) None (m / 10) k.0 ∙ ap (λ (x : Option ℕ). and_then x (λ v. Some v)) (further_digit m l s),
+      All-append (λ b. eqb b comma ≡ false) ds _ k.1 (no_comma_digit (m % 10) (omega arith)),
+    ))
     n (omega arith) small
 
 -- ---- numbers with commas between
-before_end : (p : List ℕ) → NoComma p → before_comma (p ++ []) ≡ p
-before_end [] h = refl
-before_end (b ∷ p) h = rw h.0 (ap (λ xs. b ∷ xs) (before_end p h.1))
-
-no_further : (p : List ℕ) → NoComma p → further_parts (p ++ []) ≡ []
-no_further [] h = refl
-no_further (b ∷ p) h = rw h.0 (no_further p h.1)
-
-next_part : (p rest : List ℕ) → NoComma p → further_parts (p ++ comma ∷ rest) ≡ before_comma rest ∷ further_parts rest
-next_part [] rest h = refl
-next_part (b ∷ p) rest h = rw h.0 (next_part p rest h.1)
-
-after_part : (p rest : List ℕ) → NoComma p → after_comma (p ++ comma ∷ rest) ≡ Some rest
-after_part [] rest h = refl
-after_part (b ∷ p) rest h = rw h.0 (after_part p rest h.1)
-
-before_part : (p rest : List ℕ) → NoComma p → before_comma (p ++ comma ∷ rest) ≡ p
-before_part [] rest h = refl
-before_part (b ∷ p) rest h = rw h.0 (ap (λ xs. b ∷ xs) (before_part p rest h.1))
-
 abbrev AllSmall : List ℕ → Type 0
 AllSmall vs = AllByRecursion (λ v. v ≤ max_number) vs
 
@@ -82,16 +68,26 @@ each_read : (v : ℕ) (vs : List ℕ) → AllSmall (v ∷ vs) → numbers_in (de
 unfolding numbers_in
 each_read v [] h =
     let d = decimal_reads v h.0 in
-    rw (before_end (decimal v) d.1, no_further (decimal v) d.1, d.0) refl
+    let p : parts (decimal v ++ []) ≡ decimal v ∷ [] = ap parts (append-nil (decimal v)) ∙ slice_split_none (λ b. eqb b comma) (decimal v) d.1 in
+    ap each_number p ∙ ap (λ (o : Option ℕ). and_then o (λ w. Some (w ∷ []))) d.0
 each_read v (u ∷ us) h =
     let d = decimal_reads v h.0 in
-    let ih = each_read u us h.1 in
-    rw (before_part (decimal v) (decimal u ++ listed us) d.1, next_part (decimal v) (decimal u ++ listed us) d.1, d.0, ih) refl
+    let p : parts (decimal v ++ comma ∷ (decimal u ++ listed us)) ≡ decimal v ∷ parts (decimal u ++ listed us) = slice_split_at (λ b. eqb b comma) (decimal v) comma (decimal u ++ listed us) d.1 refl in
+    ap each_number p ∙ ap₂ (λ (o : Option ℕ) (os : Option (List ℕ)). and_then o (λ w. and_then os (λ ws. Some (w ∷ ws)))) d.0 (each_read u us h.1)
 
 field_read : (v : ℕ) (rest : List ℕ) → v ≤ max_number → field_in (decimal v ++ comma ∷ rest) ≡ Some (v, rest)
 field_read v rest h =
     let d = decimal_reads v h in
-    rw (after_part (decimal v) rest d.1, before_part (decimal v) rest d.1, d.0) refl
+    let xs = decimal v in
+    let bs = xs ++ comma ∷ rest in
+    let l : length bs ≡ length xs + 1 + length rest = omega (arith, length-append xs (comma ∷ rest)) in
+    let first : position_or_len (λ b. eqb b comma) bs ≡ length xs = position_or_len_is (λ b. eqb b comma) bs (length xs) 0 (omega arith)
+    (λ k less. ap (λ b. eqb b comma) (get_or_append_left xs (comma ∷ rest) 0 k less) ∙ d.1 k 0 less) (λ _. ap (λ b. eqb b comma) (get_or-append_seam xs comma rest 0)) in
+    let found : position (λ b. eqb b comma) bs ≡ Some (length xs) = cond-true _ _ None (lt-ltb _ (length bs) (omega arith)) ∙ ap {B = Option ℕ} Some first in
+    let behind : drop (length xs + 1) bs ≡ rest = sym (drop-drop 1 (length xs) bs) ∙ ap (drop 1) (drop-append_seam xs (comma ∷ rest)) in
+    ap (λ (o : Option ℕ). and_then o (λ i. and_then (number_in (take i bs)) (λ w. Some (w, drop (i + 1) bs)))) found
+    ∙ ap₂ (λ p r. and_then (number_in p) (λ w. Some (w, r))) (take-append_seam xs (comma ∷ rest)) behind
+    ∙ ap (λ (o : Option ℕ). and_then o (λ w. Some (w, rest))) d.0
 
 -- ---- a line of a letter, a comma, bytes and a line feed
 abbrev ended : ℕ → List ℕ → List ℕ

@@ -1,13 +1,18 @@
 -- Bytes that are read as numbers are those numbers in base ten, with single commas between. Assumes nothing.
-use Rattle.std.proofs.Common.{◌≡◌, ℕ, ◌+◌, ◌-◌, ◌*◌, ◌<◌, ◌≤◌, Bool, true, false, cond, ◌&&◌, eqb, ltb, leb, List, [], ◌∷◌, ◌++◌, Some, None, decimal, Option, sym, refl, ap, ◌∙◌, ap₂, append_assoc, append-nil, arith}
+use Rattle.std.proofs.Common.{◌≡◌, ℕ, ◌+◌, ◌-◌, ◌*◌, ◌<◌, ◌≤◌, Bool, true, false, cond, ◌&&◌, eqb, ltb, leb, List, [], ◌∷◌, ◌++◌, length, get_or, take, drop, Some, None, decimal, Option, sym, refl, ap, ◌∙◌, ap₂, append_assoc, append-nil, arith}
 use lib.Arith.{digits_div, digits_mod}
 use Rattle.std.proofs.lemmas.Fmt.{decimal_digit, decimal_step}
+use Rattle.std.specs.List.{join_with_byte, position}
+use Rattle.std.proofs.lemmas.List.Splits.{join_with_byte-slice_split, length-slice_split}
+use Rattle.std.proofs.lemmas.List.Quantifiers.{position-Some}
+use Rattle.std.proofs.lemmas.List.{take-append-drop, drop_more}
 use Rattle.std.proofs.lemmas.Bool.{eqb-true, leb-true, ltb-true, and_parts}
-use Rattle.lines.specs.Parts.{comma, and_then, digit, with_digit, number_on, number_in, before_comma, after_comma, further_parts, each_number, numbers_in, field_in}
+use Rattle.numerals.specs.Numerals.{comma, and_then, digit, with_digit, number_on, number_in, each_number, parts, numbers_in}
+use Rattle.lines.specs.Parts.{field_in}
 use Rattle.lines.specs.Texts.{listed}
 
 -- ---- what is there
-none_there : {A : Type 0} {x : A} {X : Type 0} → None ≡ Some x → X
+pub none_there : {A : Type 0} {x : A} {X : Type 0} → None ≡ Some x → X
 none_there e = absurd (let z : ◌≡◌ {A = ℕ} 0 1 = cc in omega arith)
 
 where_some : {A : Type 0} (b : Bool) (x y : A) → cond b (Some x) None ≡ Some y → (b ≡ true) × (x ≡ y)
@@ -50,44 +55,31 @@ number_spelled (b ∷ p) n e =
     sym (digits_more p h.0 n h.2 ∙ ap (λ ds. ds ++ p) one)
 
 -- ---- numbers with commas between
-abbrev rejoined : List (List ℕ) → List ℕ
-rejoined [] = []
-rejoined (p ∷ ps) = comma ∷ (p ++ rejoined ps)
-
-rejoin_at : (b : ℕ) (bs : List ℕ) → bs ≡ before_comma bs ++ rejoined (further_parts bs) → (t : Bool) → eqb b comma ≡ t
-    → b ∷ bs ≡ cond t [] (b ∷ before_comma bs) ++ rejoined (cond t (before_comma bs ∷ further_parts bs) (further_parts bs))
-rejoin_at b bs ih true e = ap₂ (λ x xs. x ∷ xs) (eqb-true b comma e) ih
-rejoin_at b bs ih false e = ap (λ xs. b ∷ xs) ih
-
-rejoin : (bs : List ℕ) → bs ≡ before_comma bs ++ rejoined (further_parts bs)
-rejoin [] = refl
-rejoin (b ∷ bs) = rejoin_at b bs (rejoin bs) (eqb b comma) refl
-
-each_spelled : (ps : List (List ℕ)) (vs : List ℕ) → each_number ps ≡ Some vs → rejoined ps ≡ listed vs
-each_spelled [] vs e = let s : [] ≡ vs = cc in ap listed s
-each_spelled (p ∷ ps) vs e =
+joined_spelled : (ps : List (List ℕ)) (vs : List ℕ) → 0 < length ps → each_number ps ≡ Some vs → comma ∷ join_with_byte comma ps ≡ listed vs
+joined_spelled [] vs l e = absurd (omega arith)
+joined_spelled (p ∷ []) vs l e =
     let h = then_some (number_in p) _ vs e in
-    let k = then_some (each_number ps) _ vs h.2 in
+    let s : h.0 ∷ [] ≡ vs = let q = h.2 in cc in
+    ap (λ xs. comma ∷ xs) (number_spelled p h.0 h.1 ∙ sym (append-nil (decimal h.0))) ∙ ap listed s
+joined_spelled (p ∷ q ∷ ps) vs l e =
+    let h = then_some (number_in p) _ vs e in
+    let k = then_some (each_number (q ∷ ps)) _ vs h.2 in
     let s : h.0 ∷ k.0 ≡ vs = let q = k.2 in cc in
-    ap₂ (λ x xs. comma ∷ (x ++ xs)) (number_spelled p h.0 h.1) (each_spelled ps k.0 k.1) ∙ ap listed s
+    ap₂ (λ x xs. comma ∷ (x ++ xs)) (number_spelled p h.0 h.1) (joined_spelled (q ∷ ps) k.0 (omega arith) k.1) ∙ ap listed s
 
 pub numbers_spelled : (bs vs : List ℕ) → numbers_in bs ≡ Some vs → comma ∷ bs ≡ listed vs
 unfolding numbers_in
-numbers_spelled bs vs e = ap (λ xs. comma ∷ xs) (rejoin bs) ∙ each_spelled (before_comma bs ∷ further_parts bs) vs e
+numbers_spelled bs vs e =
+    ap (λ xs. comma ∷ xs) (sym (join_with_byte-slice_split comma bs)) ∙ joined_spelled (parts bs) vs (omega (arith, length-slice_split (λ b. eqb b comma) bs)) e
 
 -- ---- a number that a comma ends
-cut_at : (b : ℕ) (bs rest : List ℕ) → (after_comma bs ≡ Some rest → bs ≡ before_comma bs ++ comma ∷ rest) → (t : Bool) → eqb b comma ≡ t
-    → cond t (Some bs) (after_comma bs) ≡ Some rest → b ∷ bs ≡ cond t [] (b ∷ before_comma bs) ++ comma ∷ rest
-cut_at b bs rest ih true e h = let s : bs ≡ rest = cc in ap₂ (λ x xs. x ∷ xs) (eqb-true b comma e) s
-cut_at b bs rest ih false e h = ap (λ xs. b ∷ xs) (ih h)
-
-cut : (bs rest : List ℕ) → after_comma bs ≡ Some rest → bs ≡ before_comma bs ++ comma ∷ rest
-cut [] rest e = none_there e
-cut (b ∷ bs) rest e = cut_at b bs rest (cut bs rest) (eqb b comma) refl e
-
 pub field_spelled : (bs : List ℕ) (f : ℕ × List ℕ) → field_in bs ≡ Some f → bs ≡ decimal f.0 ++ comma ∷ f.1
 field_spelled bs f e =
-    let h = then_some (after_comma bs) _ f e in
-    let k = then_some (number_in (before_comma bs)) _ f h.2 in
-    let s : ◌≡◌ {A = ℕ × List ℕ} (k.0, h.0) f = let q = k.2 in cc in
-    cut bs h.0 h.1 ∙ ap (λ p. p ++ comma ∷ h.0) (number_spelled (before_comma bs) k.0 k.1) ∙ ap (λ (g : ℕ × List ℕ). decimal g.0 ++ comma ∷ g.1) s
+    let h = then_some (position (λ b. eqb b comma) bs) _ f e in
+    let i = h.0 in
+    let at = position-Some (λ b. eqb b comma) bs i 0 h.1 in
+    let k = then_some (number_in (take i bs)) _ f h.2 in
+    let s : ◌≡◌ {A = ℕ × List ℕ} (k.0, drop (i + 1) bs) f = let q = k.2 in cc in
+    sym (take-append-drop i bs)
+    ∙ ap₂ (λ x xs. x ++ xs) (number_spelled (take i bs) k.0 k.1) (drop_more bs i 0 at.0 ∙ ap (λ b. b ∷ drop (i + 1) bs) (eqb-true (get_or bs i 0) comma at.1))
+    ∙ ap (λ (g : ℕ × List ℕ). decimal g.0 ++ comma ∷ g.1) s

@@ -3,6 +3,5 @@ pub mod Calls
 pub mod Lines
 pub mod Texts
 pub mod Readable
-pub mod Items
 pub mod Told
 pub mod Marked

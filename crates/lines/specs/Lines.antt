@@ -1,8 +1,9 @@
 -- Which call a line of a session writes, for any bytes. Assumes nothing.
 use Rattle.std.specs.Prelude.{ℕ, ◌+◌, ◌-◌, Bool, cond, ◌&&◌, List, length, take, drop, Some, None, Option, ◌==◌, nat_le, nat_lt, slice_index}
 use Rattle.vote.specs.declared.Method.{Method}
-use Rattle.vote.specs.declared.Method.TheVariants.{Plain, Echo}
-use Rattle.lines.specs.Parts.{comma, numbers_in, field_in}
+use Rattle.vote.specs.Conversions.{method_of}
+use Rattle.numerals.specs.Numerals.{comma, numbers_in}
+use Rattle.lines.specs.Parts.{field_in}
 use Rattle.lines.specs.Calls.{Failing, by_count, by_sets, Opening, Call, unreadable, opens, starts_board, carries, forges}
 
 abbrev pub line_feed : ℕ
@@ -24,13 +25,6 @@ carry_letter = 99
 abbrev pub forge_letter : ℕ
 forge_letter = 102
 
--- the letters of the methods: p, e
-abbrev pub plain_letter : ℕ
-plain_letter = 112
-
-abbrev pub echo_letter : ℕ
-echo_letter = 101
-
 -- the most bytes that a line has, with its line feed
 abbrev pub max_line : ℕ
 max_line = 121
@@ -43,9 +37,6 @@ readable (Some x) f = f x
 -- a letter, and behind it a comma
 abbrev pub lettered : List ℕ → Bool
 lettered bs = nat_lt 1 (length bs) && slice_index bs 1 == comma
-
-abbrev pub method_of : ℕ → Option Method
-method_of b = cond (b == plain_letter) (Some Plain) (cond (b == echo_letter) (Some Echo) None)
 
 -- the five numbers that lead are depth, crew, what the boards fail by, characters, bad
 abbrev pub opening_with : Method → List ℕ → Failing → List ℕ → Opening

@@ -2,7 +2,7 @@
 use Rattle.std.specs.Prelude.{◌≡◌, ℕ, ◌≤◌, List, [], ◌∷◌, ◌++◌, length, All}
 use Rattle.lines.specs.Calls.{Call, unreadable, opens, starts_board, carries, forges}
 use Rattle.lines.specs.Lines.{line_feed, max_line, call_in}
-use Rattle.lines.specs.Parts.{max_number}
+use Rattle.numerals.specs.Numerals.{max_number}
 use Rattle.lines.specs.Texts.{numbers_of, text_of}
 
 -- an opening has one starting character for each board of its crew, and forged bytes end in a line feed

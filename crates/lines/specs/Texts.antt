@@ -3,8 +3,9 @@ use Rattle.std.specs.Prelude.{◌≡◌, ℕ, List, [], ◌∷◌, ◌++◌, len
 use Rattle.vote.specs.declared.Method.{Method}
 use Rattle.vote.specs.declared.Method.TheVariants.{Plain, Echo}
 use Rattle.lines.specs.Calls.{Failing, by_count, by_sets, Opening, Call, unreadable, opens, starts_board, carries, forges}
-use Rattle.lines.specs.Lines.{line_feed, open_by_count_letter, open_by_sets_letter, start_letter, carry_letter, forge_letter, plain_letter, echo_letter}
-use Rattle.lines.specs.Parts.{comma}
+use Rattle.lines.specs.Lines.{line_feed, open_by_count_letter, open_by_sets_letter, start_letter, carry_letter, forge_letter}
+use Rattle.numerals.specs.Numerals.{comma}
+use Rattle.vote.specs.Conversions.{plain_letter, echo_letter}
 
 abbrev pub letter_of : Method → ℕ
 letter_of Plain = plain_letter

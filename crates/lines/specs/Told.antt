@@ -3,11 +3,11 @@ use Rattle.std.specs.Prelude.{◌≡◌, ℕ, ◌+◌, ◌≤◌, cond, List, le
 use Rattle.vote.specs.declared.Method.{Method}
 use Rattle.lines.specs.declared.head.Head.{Head}
 use Rattle.lines.specs.declared.line.Line.{Line}
-use Rattle.lines.specs.declared.line.Line.TheVariants.{Unreadable, Open, Start, Carry, Forge}
+use Rattle.lines.specs.declared.line.Line.TheVariants.{Open, Start, Carry, Forge}
 use Rattle.lines.specs.declared.plan.By.{By}
 use Rattle.lines.specs.declared.plan.By.TheVariants.{Count, Sets}
 use Rattle.lines.specs.declared.plan.Plan.{Plan}
-use Rattle.lines.specs.Items.{items}
+use Rattle.fixed.specs.Items.{items_of}
 use Rattle.lines.specs.Calls.{Failing, by_count, by_sets, Opening, Call, unreadable, opens, starts_board, carries, forges}
 use Rattle.lines.specs.Lines.{opening_with}
 
@@ -17,10 +17,10 @@ sets_many (Count f) = 0
 sets_many (Sets m) = m
 
 abbrev pub sets_of : Plan → List ℕ
-sets_of p = take (sets_many p.by) (items p.numbers)
+sets_of p = take (sets_many p.by) (items_of p.numbers)
 
 abbrev pub starts_of : Plan → List ℕ
-starts_of p = drop (sets_many p.by) (items p.numbers)
+starts_of p = drop (sets_many p.by) (items_of p.numbers)
 
 abbrev pub failing_by : By → List ℕ → Failing
 failing_by (Count f) vs = by_count f
@@ -31,7 +31,7 @@ opening_of p = record {
   method = p.method;
   depth = p.depth;
   crew = p.crew;
-  failing = failing_by p.by (items p.numbers);
+  failing = failing_by p.by (items_of p.numbers);
   characters = p.characters;
   bad = p.listed;
   starts = starts_of p;
@@ -45,20 +45,20 @@ open_with m vs by =
 -- what is made of a method and numbers, if they were read
 abbrev pub head_call : (Method → List ℕ → Call) → Option Head → Call
 head_call call None = unreadable
-head_call call (Some h) = call h.method (items h.numbers)
+head_call call (Some h) = call h.method (items_of h.numbers)
 
 -- what is forged is told by the place in the line at which it begins
-abbrev pub call_of : List ℕ → Line → Call
-call_of line Unreadable = unreadable
-call_of line (Open p) = opens (opening_of p)
-call_of line (Start i) = starts_board i
-call_of line (Carry to from kind value) = carries to from kind value
-call_of line (Forge to from place) = forges to from (drop place line)
+abbrev pub call_of : List ℕ → Option Line → Call
+call_of line None = unreadable
+call_of line (Some (Open p)) = opens (opening_of p)
+call_of line (Some (Start i)) = starts_board i
+call_of line (Some (Carry to from kind value)) = carries to from kind value
+call_of line (Some (Forge to from place)) = forges to from (drop place line)
 
 -- a plan has as many sets as it says and one starting character for each board, and a place is within the line
-abbrev pub Within : List ℕ → Line → Type 0
-Within line Unreadable = Unit {0}
-Within line (Open p) = (length (sets_of p) ≡ sets_many p.by) × (length (starts_of p) ≡ p.crew)
-Within line (Start i) = Unit {0}
-Within line (Carry to from kind value) = Unit {0}
-Within line (Forge to from place) = place ≤ length line
+abbrev pub Within : List ℕ → Option Line → Type 0
+Within line None = Unit {0}
+Within line (Some (Open p)) = (length (sets_of p) ≡ sets_many p.by) × (length (starts_of p) ≡ p.crew)
+Within line (Some (Start i)) = Unit {0}
+Within line (Some (Carry to from kind value)) = Unit {0}
+Within line (Some (Forge to from place)) = place ≤ length line

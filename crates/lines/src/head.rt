@@ -2,12 +2,10 @@
 ghost use Rattle.std.specs.Prelude.{◌≡◌, ℕ, ◌<◌, List, length};
 ghost use Rattle.vote.specs.declared.Method.{Method as OfMethod};
 ghost use Rattle.lines.specs.Calls.{Call};
-ghost use Rattle.lines.specs.Lines.{method_of, opened_in};
-ghost use Rattle.lines.specs.Lines.{lettered as is_lettered};
+ghost use Rattle.lines.specs.Lines.{opened_in};
 ghost use Rattle.lines.specs.Told.{head_call};
 
-use crate::list::read_numbers;
-use crate::numbers::Numbers;
+use crate::list::{Numbers, read_numbers};
 use vote::Method;
 
 #[derive(Clone, Copy)]
@@ -16,39 +14,16 @@ pub struct Head {
     pub numbers: Numbers,
 }
 
-// Whether a comma follows the first byte.
-pub(crate) fn lettered(bytes: &[u8]) -> bool
-    ensures { result ≡ is_lettered bytes.now }
-{
-    if bytes.len() < 2 {
-        return false;
-    }
-    bytes[1] == b','
-}
-
-fn method(letter: u8) -> Option<Method>
-    ensures { result ≡ method_of letter }
-{
-    match letter as char {
-        'p' => Some(Method::Plain),
-        'e' => Some(Method::Echo),
-        _ => None,
-    }
-}
-
 // What is then made of the two is what is made of the bytes.
 pub(crate) fn read_head(bytes: &[u8]) -> Option<Head>
     requires { length bytes.now < 120 }
     ensures { (call : OfMethod → List ℕ → Call) → head_call call result ≡ opened_in call bytes.now }
 {
-    if !lettered(bytes) {
+    let [letter, b',', rest @ ..] = bytes else {
         return None;
-    }
-    match method(bytes[0]) {
-        None => None,
-        Some(method) => match read_numbers(&bytes[2..]) {
-            None => None,
-            Some(numbers) => Some(Head { method, numbers }),
-        },
-    }
+    };
+    Some(Head {
+        method: Method::try_from(*letter).ok()?,
+        numbers: read_numbers(rest)?,
+    })
 }

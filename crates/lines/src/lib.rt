@@ -3,19 +3,16 @@
 
 #![tactic(auto)]
 
-mod field;
 mod forge;
 mod head;
 mod line;
 mod list;
-mod number;
-mod numbers;
 mod numeric;
 mod opening;
 mod plan;
 mod reading;
 
 pub use line::Line;
-pub use numbers::Numbers;
+pub use list::Numbers;
 pub use plan::{By, Plan};
 pub use reading::read_line;

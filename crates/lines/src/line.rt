@@ -3,7 +3,6 @@ use crate::plan::Plan;
 
 #[derive(Clone, Copy)]
 pub enum Line {
-    Unreadable,
     Open(Plan),
     // The board.
     Start(u16),

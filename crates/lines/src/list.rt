@@ -1,47 +1,24 @@
-// Numbers with commas between.
-ghost use Rattle.std.specs.Prelude.{◌≡◌, ◌<◌, ◌≤◌, length, drop, Some, None, MatchOption};
-ghost use Rattle.lines.specs.Items.{items};
-ghost use Rattle.lines.specs.Parts.{numbers_in};
+// Numbers with commas between, in room of their own.
+ghost use Rattle.std.specs.Prelude.{◌≡◌, ◌<◌, length, Some, None, MatchOption};
+ghost use Rattle.fixed.specs.Items.{items_of};
+ghost use Rattle.numerals.specs.Numerals.{numbers_in};
 
-use crate::number::with_digit;
-use crate::numbers::Numbers;
+use fixed::Fixed;
+use numerals::number;
+
+// As many numbers as a line can hold.
+const MAX_NUMBERS: usize = 60;
+
+pub type Numbers = Fixed<u16, MAX_NUMBERS>;
 
 // The numbers that the bytes write, if they write such. Each number but the last takes two bytes at least.
 pub(crate) fn read_numbers(bytes: &[u8]) -> Option<Numbers>
     requires { length bytes.now < 120 }
-    ensures { MatchOption result (numbers_in bytes.now ≡ None) (λ v. numbers_in bytes.now ≡ Some (items v)) }
+    ensures { MatchOption result (numbers_in bytes.now ≡ None) (λ v. numbers_in bytes.now ≡ Some (items_of v)) }
 {
-    let mut done = Numbers::new();
-    let mut so_far = None;
-    for byte in bytes {
-        if *byte == b',' {
-            let Some(value) = so_far else {
-                return None;
-            };
-            done.push(value);
-            so_far = None;
-        } else {
-            let Some(value) = with_digit(so_far, *byte) else {
-                return None;
-            };
-            so_far = Some(value);
-        }
+    let mut done = Fixed::new(0);
+    for part in bytes.split(|b| *b == b',') {
+        done.push(number(part)?).ok()?;
     }
-    let Some(value) = so_far else {
-        return None;
-    };
-    done.push(value);
     Some(done)
-}
-
-// The numbers from a place on.
-pub(crate) fn rest_of(numbers: &Numbers, from: usize) -> Numbers
-    requires { from ≤ length (items numbers.now) }
-    ensures { items result ≡ drop from (items numbers.now) }
-{
-    let mut rest = Numbers::new();
-    for i in from..numbers.len() {
-        rest.push(numbers.at(i));
-    }
-    rest
 }

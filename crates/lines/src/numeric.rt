@@ -1,36 +1,26 @@
 // Lines of a letter and numbers alone.
-ghost use Rattle.std.specs.Prelude.{◌≡◌, ℕ, ◌<◌, List, length};
-ghost use Rattle.lines.specs.Lines.{readable, start_with, carry_with};
-ghost use Rattle.lines.specs.Parts.{numbers_in};
+ghost use Rattle.std.specs.Prelude.{◌≡◌, ℕ, List};
+ghost use Rattle.lines.specs.Lines.{start_with, carry_with};
 ghost use Rattle.lines.specs.Told.{call_of, Within};
 
 use crate::line::Line;
-use crate::list::read_numbers;
 
-pub(crate) fn start(body: &[u8]) -> Line
-    requires { length body.now < 120 }
-    ensures call { (line : List ℕ) → call_of line result ≡ readable (numbers_in body.now) start_with }
+pub(crate) fn start(numbers: &[u16]) -> Option<Line>
+    ensures call { (line : List ℕ) → call_of line result ≡ start_with numbers.now }
     ensures within { (line : List ℕ) → Within line result }
 {
-    let Some(numbers) = read_numbers(body) else {
-        return Line::Unreadable;
+    let [board] = numbers else {
+        return None;
     };
-    if numbers.len() != 1 {
-        return Line::Unreadable;
-    }
-    Line::Start(numbers.at(0))
+    Some(Line::Start(*board))
 }
 
-pub(crate) fn carry(body: &[u8]) -> Line
-    requires { length body.now < 120 }
-    ensures call { (line : List ℕ) → call_of line result ≡ readable (numbers_in body.now) carry_with }
+pub(crate) fn carry(numbers: &[u16]) -> Option<Line>
+    ensures call { (line : List ℕ) → call_of line result ≡ carry_with numbers.now }
     ensures within { (line : List ℕ) → Within line result }
 {
-    let Some(numbers) = read_numbers(body) else {
-        return Line::Unreadable;
+    let [to, from, kind, value] = numbers else {
+        return None;
     };
-    if numbers.len() != 4 {
-        return Line::Unreadable;
-    }
-    Line::Carry(numbers.at(0), numbers.at(1), numbers.at(2), numbers.at(3))
+    Some(Line::Carry(*to, *from, *kind, *value))
 }

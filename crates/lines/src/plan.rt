@@ -2,7 +2,7 @@
 ghost use Rattle.std.specs.Prelude.{◌≡◌};
 ghost use Rattle.lines.specs.Told.{sets_of, starts_of, sets_many};
 
-use crate::numbers::Numbers;
+use crate::list::Numbers;
 use vote::Method;
 
 // What the boards fail by: at most so many together, or so many listed sets.
@@ -38,18 +38,26 @@ impl By {
 }
 
 impl Plan {
+    // The sets, and the character that each board starts from.
+    fn parts(&self) -> (&[u16], &[u16])
+        ensures sets { result.0.now ≡ sets_of self.now }
+        ensures starts { result.1.now ≡ starts_of self.now }
+    {
+        let all = self.numbers.as_slice();
+        let many = self.by.sets().min(all.len());
+        all.split_at(many)
+    }
+
     pub fn sets(&self) -> &[u16]
         ensures { result.now ≡ sets_of self.now }
     {
-        let all = self.numbers.all();
-        &all[0..self.by.sets().min(all.len())]
+        self.parts().0
     }
 
     // The character that each board starts from.
     pub fn starts(&self) -> &[u16]
         ensures { result.now ≡ starts_of self.now }
     {
-        let all = self.numbers.all();
-        &all[self.by.sets().min(all.len())..]
+        self.parts().1
     }
 }

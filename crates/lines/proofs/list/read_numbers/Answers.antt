@@ -1,46 +1,43 @@
--- Each byte takes the reading a step on. Assumes nothing.
-use Rattle.std.proofs.Common.{ℕ, ◌+◌, List, take, drop, Some, None, Option, sym, ap, ◌∙◌, ap₂, arith}
-use Rattle.lines.proofs.Scan.{numbers_on, numbers_begun, begun, comma_met, digit_met, end_met}
-use Rattle.lines.specs.declared.numbers.Numbers.{Numbers}
-use Rattle.lines.specs.Items.{items}
+-- Each part takes the reading a step on, and none is read beyond the room. Assumes nothing.
+use Rattle.std.proofs.Common.{rules, tests, eqb, ◌≡◌, ◌+◌, ◌∙◌, [], ◌∷◌, ◌++◌, length, drop, Some, None, sym, ap, ap₂, arith}
+use Rattle.std.proofs.lemmas.List.{length_push}
+use Rattle.std.proofs.lemmas.Iterator.Consumers.{YieldsList-turn, YieldsList-end}
+use Rattle.std.proofs.lemmas.Iterator.Splits.{YieldsList-from_slice_split}
+use Rattle.fixed.specs.Items.{items_of}
+use Rattle.numerals.specs.Numerals.{comma, parts, numbers_in}
+use Rattle.numerals.proofs.Reading.{after, none_read, part_read, all_read}
+use Rattle.lines.proofs.Room.{too_many}
 use Rattle.lines.proofs.list.read_numbers.Goals as goal
-use Rattle.lines.proofs.list.read_numbers.Goals.{then-byte-eq44+in-Some, else-byte-eq44+in-Some-with_digit}
 
-pub loop-byte-init : goal.loop-byte-init
-loop-byte-init c = let n = c.new-done.result in
-    (ap (λ k. numbers_on (take k n.values) None c.args.bytes.now) c.new-done.ensures ∙ numbers_begun c.args.bytes.now, omega arith)
+pub loop-part-init : goal.loop-part-init
+loop-part-init c = ap (λ vs. after vs (parts c.args.bytes.now)) c.new-done.ensures ∙ none_read c.args.bytes.now
 
-pub returns-in_default : goal.returns-in_default
-returns-in_default c = let d = c.loop-byte.done in
-    sym (comma_met c.args.bytes.now c.loop-byte.byte-index (items d) c.loop-byte.so_far c.loop-byte.invariant.0 (omega arith) c.if-byte-eq44.true None c.in_default.is)
+pub returns-in_err-number : goal.returns-in_err-number
+returns-in_err-number c =
+    let e = YieldsList-from_slice_split _ (λ b. eqb b comma) c.args.bytes.now (search rules) (search rules) (search rules) (λ x r q k. search (rules, tests)) in
+    let t = YieldsList-turn e c.loop-part.yielded _ c.loop-part.yielded_by _ _ c.in-Some.part c.in-Some.is c.next.ensures.steps in
+    let h : None ≡ numbers_in c.args.bytes.now = part_read c.args.bytes.now (length c.loop-part.yielded) (items_of c.loop-part.done) c.loop-part.invariant c.in-Some.part.now t None (sym c.in_err-number.was ∙ c.number.ensures) in
+    search rules
 
-pub returns-in_default-with_digit : goal.returns-in_default-with_digit
-returns-in_default-with_digit c = let d = c.loop-byte.done in
-    sym (digit_met c.args.bytes.now c.loop-byte.byte-index (items d) c.loop-byte.so_far c.loop-byte.invariant.0 (omega arith) c.if-byte-eq44.false None (sym c.in_default-with_digit.ensures))
+pub loop-part-preserved : goal.loop-part-preserved
+loop-part-preserved c =
+    let e = YieldsList-from_slice_split _ (λ b. eqb b comma) c.args.bytes.now (search rules) (search rules) (search rules) (λ x r q k. search (rules, tests)) in
+    let t = YieldsList-turn e c.loop-part.yielded _ c.loop-part.yielded_by _ _ c.in-Some.part c.in-Some.is c.next.ensures.steps in
+    let p : items_of c.push.new.self ≡ items_of c.loop-part.done ++ c.in_ok-number.field-0 ∷ [] = search rules in
+    ap₂ (λ vs n. after vs (drop n (parts c.args.bytes.now))) p (length_push c.loop-part.yielded c.in-Some.part)
+    ∙ part_read c.args.bytes.now (length c.loop-part.yielded) (items_of c.loop-part.done) c.loop-part.invariant c.in-Some.part.now t (Some c.in_ok-number.field-0) (sym c.in_ok-number.was ∙ c.number.ensures)
 
-pub loop-byte-preserved : goal.loop-byte-preserved
-loop-byte-preserved c =
-    let bs = c.args.bytes.now in
-    let i = c.loop-byte.byte-index in
-    let d = c.loop-byte.done in
-    elim c.if-byte-eq44.branch [
-      | then-byte-eq44+in-Some w ↦ (
-        ap₂ (λ vs v. numbers_on vs v (drop (i + 1) bs)) (ap items w.done-is ∙ w.push.ensures.items) w.so_far-is
-            ∙ comma_met bs i (items d) c.loop-byte.so_far c.loop-byte.invariant.0 (omega arith) w.if-byte-eq44.true (Some w.in-Some.value) w.in-Some.is,
-        omega (arith, ap (λ (n : Numbers). n.many) w.done-is, w.push.ensures.many, ap begun w.so_far-is, ap begun w.in-Some.is, c.loop-byte.invariant.1),
-      )
-      | else-byte-eq44+in-Some-with_digit w ↦ (
-        ap₂ (λ vs v. numbers_on vs v (drop (i + 1) bs)) (ap items w.done-is) w.so_far-is
-            ∙ digit_met bs i (items d) c.loop-byte.so_far c.loop-byte.invariant.0 (omega arith) w.if-byte-eq44.false (Some w.in-Some-with_digit.value) (sym w.in-Some-with_digit.ensures),
-        omega (arith, ap (λ (n : Numbers). n.many) w.done-is, ap begun w.so_far-is, c.loop-byte.invariant.1),
-      )
-    ]
-
-pub returns-in_default-so_far : goal.returns-in_default-so_far
-returns-in_default-so_far c = let d = c.loop-byte.done in
-    sym (end_met c.args.bytes.now c.loop-byte.byte-index (items d) c.loop-byte.so_far c.loop-byte.invariant.0 (omega arith) None c.in_default-so_far.is)
+pub returns-in_err-ok : goal.returns-in_err-ok
+returns-in_err-ok c =
+    let e = YieldsList-from_slice_split _ (λ b. eqb b comma) c.args.bytes.now (search rules) (search rules) (search rules) (λ x r q k. search (rules, tests)) in
+    let t = YieldsList-turn e c.loop-part.yielded _ c.loop-part.yielded_by _ _ c.in-Some.part c.in-Some.is c.next.ensures.steps in
+    let full : length (items_of c.loop-part.done) ≡ 60 = search rules in
+    let read = part_read c.args.bytes.now (length c.loop-part.yielded) (items_of c.loop-part.done) c.loop-part.invariant c.in-Some.part.now t (Some c.in_ok-number.field-0) (sym c.in_ok-number.was ∙ c.number.ensures) in
+    let h : numbers_in c.args.bytes.now ≡ None = too_many c.args.bytes.now c.requires (items_of c.loop-part.done) full c.in_ok-number.field-0 (drop (length c.loop-part.yielded + 1) (parts c.args.bytes.now)) read in
+    search rules
 
 pub returns : goal.returns
-returns c = let d = c.loop-byte.done in
-    sym (end_met c.args.bytes.now c.loop-byte.byte-index (items d) c.loop-byte.so_far c.loop-byte.invariant.0 (omega arith) (Some c.in-Some-so_far.value) c.in-Some-so_far.is)
-    ∙ ap {B = Option (List ℕ)} Some (sym c.push-2.ensures.items)
+returns c =
+    let e = YieldsList-from_slice_split _ (λ b. eqb b comma) c.args.bytes.now (search rules) (search rules) (search rules) (λ x r q k. search (rules, tests)) in
+    let t = YieldsList-end e c.loop-part.yielded _ c.loop-part.yielded_by _ _ c.in-None.is c.next.ensures.steps in
+    sym (all_read c.args.bytes.now (length c.loop-part.yielded) (items_of c.loop-part.done) c.loop-part.invariant (omega (arith, t.1)))

@@ -1,9 +1,9 @@
--- What is left, after what was read, gives the numbers; each number read took two bytes. Assumes nothing.
-use Rattle.std.proofs.Common.{◌≡◌, ◌+◌, ◌*◌, ◌≤◌, drop}
-use Rattle.lines.specs.Parts.{numbers_in}
-use Rattle.lines.proofs.Scan.{numbers_on, begun}
-use Rattle.lines.specs.Items.{items}
+-- The parts that are left, after those that were read, give the numbers. Assumes nothing.
+use Rattle.std.proofs.Common.{◌≡◌, drop, length}
+use Rattle.fixed.specs.Items.{items_of}
+use Rattle.numerals.specs.Numerals.{parts, numbers_in}
+use Rattle.numerals.proofs.Reading.{after}
 use Rattle.lines.proofs.list.read_numbers.Given as goal
 
-abbrev pub invariant-loop-byte : goal.invariant-loop-byte
-invariant-loop-byte l = (numbers_on (items l.done) l.so_far (drop l.byte-index l.bytes) ≡ numbers_in l.bytes) × (2 * l.done.many + begun l.so_far ≤ l.byte-index)
+abbrev pub invariant-loop-part : goal.invariant-loop-part
+invariant-loop-part l = after (items_of l.done) (drop (length l.yielded) (parts l.bytes)) ≡ numbers_in l.bytes
