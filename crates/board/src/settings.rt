@@ -49,11 +49,7 @@ pub fn kept_vote<R: FailureRule>(
     if !(1..=MAX_CHARACTERS).contains(&characters) {
         return Err(BoardFault::Characters);
     }
-    let depth = match depth {
-        1 => Depth::One,
-        2 => Depth::Two,
-        _ => return Err(BoardFault::Depth),
-    };
+    let depth = Depth::try_from(depth).map_err(|_| BoardFault::Depth)?;
     let cover = rule.cover();
     if !(MIN_COVER..=MAX_COVER).contains(&cover) {
         return Err(BoardFault::Cover);
