@@ -1,16 +1,9 @@
 -- What each fault of a board tells: its number, and of a frame's fault the place and the board. Assumes nothing.
-use Rattle.std.specs.Prelude.{ℕ, Some, None}
 use Rattle.refusal.specs.declared.Refusal.{Refusal}
+use Rattle.refusal.specs.Told.{told, passed_on}
 use Rattle.wire.specs.Faults as frame
 use Rattle.board.specs.declared.fault.BoardFault.{BoardFault}
 use Rattle.board.specs.declared.fault.BoardFault.TheVariants.{Crew, Characters, Depth, Cover, EchoCover, Board, Address, Start, Port, Frame, Elsewhere, Sender, Kind, Value}
-
-abbrev pub told : ℕ → Refusal
-told n = record { number = n; place = None; board = None }
-
--- what a frame tells, with the board that passes it on
-abbrev pub passed_on : ℕ → Refusal → Refusal
-passed_on b r = record { number = r.number; place = r.place; board = Some b }
 
 -- every case; the layer follows from the number
 abbrev pub refusal_of : BoardFault → Refusal

@@ -1,5 +1,5 @@
 -- What stands against fitting a board, by rising number. Assumes nothing.
-use Rattle.std.specs.Prelude.{ℕ, ◌≤◌, Bool, false, cond, not, ◌&&◌, List, [], ◌∷◌, Some, None, Option, nat_lt}
+use Rattle.std.specs.Prelude.{ℕ, Bool, false, cond, not, ◌&&◌, List, [], ◌∷◌, Some, None, Option, nat_lt}
 use Rattle.quorum.specs.Rules.{Rule}
 use Rattle.vote.specs.declared.Method.{Method}
 use Rattle.vote.specs.declared.Method.TheVariants.{Plain, Echo}
@@ -9,7 +9,7 @@ use Rattle.board.specs.declared.fault.BoardFault.TheVariants.{Crew, Characters, 
 use Rattle.board.specs.declared.settings.Settings.{Settings}
 
 -- the fault of the first test that fails
-abbrev pub first_failed : List (Bool × BoardFault) → Option BoardFault
+abbrev pub first_failed : {A : Type 0} → List (Bool × A) → Option A
 first_failed [] = None
 first_failed (t ∷ ts) = cond t.0 (first_failed ts) (Some t.1)
 
@@ -29,16 +29,19 @@ settings_fault R s = first_failed (
     ∷ (is_within 1 s.characters s.start, Start)
     ∷ [])
 
--- the numbers of settings that nothing stands against
-pub record GoodSettings (s : Settings) : Type 0 where
-  pub characters_low : 1 ≤ s.characters
-  pub characters_high : s.characters ≤ 8
-  pub depth_low : 1 ≤ s.depth
-  pub depth_high : s.depth ≤ 2
-  pub board_high : s.board ≤ 15
-  pub group_low : 1 ≤ s.group
-  pub group_high : s.group ≤ 65535
-  pub change_low : 1 ≤ s.change
-  pub change_high : s.change ≤ 65535
-  pub start_low : 1 ≤ s.start
-  pub start_high : s.start ≤ s.characters
+-- of those, the tests of a vote: what a board is fitted with and what a group is opened with
+abbrev pub vote_tests : Rule → Method → ℕ → ℕ → List (Bool × BoardFault)
+vote_tests R m d k =
+    (is_within 1 16 R.crew, Crew)
+    ∷ (is_within 1 8 k, Characters)
+    ∷ (is_within 1 2 d, Depth)
+    ∷ (is_within 2 3 R.cover, Cover)
+    ∷ (not (echo_under_two m R.cover), EchoCover)
+    ∷ []
+
+abbrev pub vote_fault : Rule → Method → ℕ → ℕ → Option BoardFault
+vote_fault R m d k = first_failed (vote_tests R m d k)
+
+-- and the test of an address
+abbrev pub address_fault : ℕ → ℕ → Option BoardFault
+address_fault g c = cond (is_within 1 65535 g && is_within 1 65535 c) None (Some Address)

@@ -6,7 +6,7 @@ ghost use Rattle.board.specs.declared.fault.BoardFault.TheVariants.{Frame};
 use refusal::Refusal;
 use wire::FrameFault;
 
-#[derive(Clone, Copy, PartialEq, Debug)]
+#[derive(Clone, Copy, PartialEq, Eq, Debug)]
 pub enum BoardFault {
     // the rule's crew has not 1 to 16 boards
     Crew,
@@ -38,12 +38,12 @@ pub enum BoardFault {
     Value,
 }
 
-impl BoardFault {
-    // What is told of the fault.
-    pub fn refusal(&self) -> Refusal
-        ensures { result ≡ refusal_of self.now }
-    {
-        let number = match *self {
+// What is told of the fault.
+impl From<BoardFault> for Refusal {
+    ghost from_gives = { λ e r. r ≡ refusal_of e };
+
+    fn from(fault: BoardFault) -> Refusal {
+        let number = match fault {
             BoardFault::Crew => 1,
             BoardFault::Characters => 2,
             BoardFault::Depth | BoardFault::Cover => 3,
@@ -56,24 +56,9 @@ impl BoardFault {
             BoardFault::Sender => 17,
             BoardFault::Kind => 18,
             BoardFault::Value => 19,
-            BoardFault::Frame(board, fault) => {
-                let Refusal {
-                    number,
-                    place,
-                    board: _,
-                } = fault.refusal();
-                return Refusal {
-                    number,
-                    place,
-                    board: Some(board),
-                };
-            }
+            BoardFault::Frame(board, fault) => return Refusal::from(fault).passed_on(board),
         };
-        Refusal {
-            number,
-            place: None,
-            board: None,
-        }
+        Refusal::numbered(number)
     }
 }
 

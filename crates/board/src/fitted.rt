@@ -1,13 +1,12 @@
 // A board that is fitted and not yet started.
-ghost use Rattle.std.specs.Prelude.{◌≡◌, ℕ, ◌≤◌, Some, None, MatchResult};
+ghost use Rattle.std.specs.Prelude.{◌≡◌, Some, None, MatchResult};
 ghost use Rattle.board.specs.Fitted.{Keeps};
-ghost use Rattle.board.specs.Fitting.{settings_fault, GoodSettings};
+ghost use Rattle.board.specs.Fitting.{settings_fault};
 
 use crate::fault::BoardFault;
 use crate::fit::{Fit, Fitting};
-use crate::settings::{Settings, settings_fault};
+use crate::settings::{Settings, kept_address, kept_vote};
 use quorum::FailureRule;
-use vote::Depth;
 
 #[derive(Drop)]
 pub struct Fitted<R: FailureRule> {
@@ -15,26 +14,31 @@ pub struct Fitted<R: FailureRule> {
     pub(crate) fitting: Fitting,
 }
 
-// The settings in the sizes that a board keeps them.
-fn kept(settings: &Settings) -> Fitting
-    requires { GoodSettings settings.now }
-    ensures { Keeps settings.now result.fit }
-{
-    let depth = if settings.depth == 1 {
-        Depth::One
-    } else {
-        Depth::Two
-    };
-    let fit = Fit {
-        method: settings.method,
-        depth,
-        characters: settings.characters as u8,
-        group: settings.group as u16,
-        change: settings.change as u16,
-        board: settings.board as u8,
-        start: settings.start as u8,
-    };
-    Fitting { fit }
+impl Settings {
+    // The settings in the sizes that a board keeps them, or what stands against them under the rule, by rising number.
+    #[tactic(auto, unfolding(crate::specs::Fitting::settings_fault))]
+    pub(crate) fn fitting<R: FailureRule>(&self, rule: &R) -> Result<Fitting, BoardFault>
+        ensures { MatchResult result (λ k. (settings_fault (R.meaning rule.now) self.now ≡ None) × Keeps self.now k.fit) (λ e. settings_fault (R.meaning rule.now) self.now ≡ Some e) }
+    {
+        let (depth, characters) = kept_vote(rule, self.method, self.depth, self.characters)?;
+        if self.board >= u32::from(rule.crew()) {
+            return Err(BoardFault::Board);
+        }
+        let (group, change) = kept_address(self.group, self.change)?;
+        if !(1..=self.characters).contains(&self.start) {
+            return Err(BoardFault::Start);
+        }
+        let fit = Fit {
+            method: self.method,
+            depth,
+            characters,
+            group,
+            change,
+            board: self.board as u8,
+            start: self.start as u8,
+        };
+        Ok(Fitting { fit })
+    }
 }
 
 impl<R: FailureRule + Drop> Fitted<R> {
@@ -42,10 +46,7 @@ impl<R: FailureRule + Drop> Fitted<R> {
     pub fn fit(rule: R, settings: Settings) -> Result<Fitted<R>, BoardFault>
         ensures { MatchResult result (λ b. (settings_fault (R.meaning rule) settings ≡ None) × (b.rule ≡ rule) × Keeps settings b.fitting.fit) (λ e. settings_fault (R.meaning rule) settings ≡ Some e) }
     {
-        if let Some(fault) = settings_fault(&rule, &settings) {
-            return Err(fault);
-        }
-        let fitting = kept(&settings);
+        let fitting = settings.fitting(&rule)?;
         Ok(Fitted { rule, fitting })
     }
 }

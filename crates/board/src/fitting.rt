@@ -4,64 +4,45 @@ ghost use Rattle.quorum.specs.Rules.{Rule};
 ghost use Rattle.wire.specs.Slips.{words_of};
 ghost use Rattle.vote.specs.declared.Vote.{Vote};
 ghost use Rattle.board.specs.Shown.{record_of, method_of, setting_of};
-ghost use Rattle.board.specs.Started.{posted_of, told_of, slip_of, first_posted, Accepts};
+ghost use Rattle.board.specs.Started.{posted_of, first_posted, Accepts};
 ghost use Rattle.board.specs.Taking.{word_taken};
 
 use crate::answer::Taken;
 use crate::fault::BoardFault;
 use crate::fit::Fitting;
 use crate::record::Record;
-use crate::step::step;
 use crate::taking::word_taken;
 use echo_board::EchoRecord;
 use plain_board::PlainRecord;
 use quorum::FailureRule;
-use vote::{Method, News, Vote};
+use vote::{Method, Vote};
 use wire::{Posted, Slip};
 
-// The slip with these sets of values by kind.
-fn slip(fitting: &Fitting, kinds: [u16; 5]) -> Slip
-    ensures { result.posted ≡ posted_of fitting.now.fit (record { kinds = kinds }) }
-{
-    let posted = Posted {
-        group: fitting.fit.group,
-        change: fitting.fit.change,
-        sender: fitting.fit.board,
-        kinds,
-    };
-    let Ok(slip) = Slip::holding(posted) else {
-        unreachable()
-    };
-    slip
-}
-
-// The answer and the slip of a counted word.
-fn told(fitting: &Fitting, news: Option<News>) -> (Taken, Slip)
-    ensures taken { result.0 ≡ told_of news }
-    ensures slip { result.1.posted ≡ slip_of fitting.now.fit news }
-{
-    match news {
-        None => (Taken::Again, slip(fitting, [0; 5])),
-        Some(posted) => (Taken::Counted, slip(fitting, posted.kinds)),
-    }
-}
-
-// The record of a board that has counted nothing.
-fn first_record(fitting: &Fitting) -> Record
-    ensures { (R : Rule) → result ≡ record_of R fitting.now.fit [] }
-{
-    match fitting.fit.method {
-        Method::Plain => Record::Gathers(PlainRecord::start()),
-        Method::Echo => Record::Echoes(EchoRecord::start(fitting.fit.start)),
-    }
-}
-
 impl Fitting {
+    // The slip with these sets of values by kind.
+    fn slip(&self, kinds: [u16; 5]) -> Slip
+        ensures { result.posted ≡ posted_of self.now.fit (record { kinds = kinds }) }
+    {
+        let posted = Posted {
+            group: self.fit.group,
+            change: self.fit.change,
+            sender: self.fit.board,
+            kinds,
+        };
+        let Ok(slip) = Slip::holding(posted) else {
+            unreachable()
+        };
+        slip
+    }
+
     // The record of a board that has counted nothing.
     pub fn record(&self) -> Record
         ensures { (R : Rule) → result ≡ record_of R self.now.fit [] }
     {
-        first_record(self)
+        match self.fit.method {
+            Method::Plain => Record::Gathers(PlainRecord::start()),
+            Method::Echo => Record::Echoes(EchoRecord::start(self.fit.start)),
+        }
     }
 
     // The slip that goes with the start: it has the board's first word.
@@ -69,7 +50,7 @@ impl Fitting {
         ensures value { (R : Rule) → result.posted ≡ first_posted R self.now.fit }
         ensures fits { length (words_of result.posted) * 19 ≤ 114 }
     {
-        slip(self, [1 << self.fit.start, 0, 0, 0, 0])
+        self.slip([1 << self.fit.start, 0, 0, 0, 0])
     }
 
     // Takes a frame on a port: the word is counted, or found counted already, and the slip has the words just posted; or it is refused, and nothing changes.
@@ -89,9 +70,10 @@ impl Fitting {
             kind: word.kind,
             value: word.value,
         };
-        let (counted, news) = step(rule, self, *state, vote);
-        *state = counted;
-        Ok(told(self, news))
+        match self.count(rule, state, vote) {
+            None => Ok((Taken::Again, self.slip([0; 5]))),
+            Some(news) => Ok((Taken::Counted, self.slip(news.kinds))),
+        }
     }
 
     // Whether a started board with this record has posted the word, whatever these numbers are.

@@ -21,5 +21,5 @@ pub use fit::{Fit, Fitting};
 pub use fitted::Fitted;
 pub use lamp::{Order, lamp_order};
 pub use record::Record;
-pub use settings::{Settings, settings_fault};
+pub use settings::{Settings, kept_address, kept_vote, settings_fault};
 pub use started::Started;

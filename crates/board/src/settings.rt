@@ -1,23 +1,19 @@
 // What a board is fitted with, and what stands against it.
-ghost use Rattle.std.specs.Prelude.{◌≡◌, if◌then◌else◌, Some};
-ghost use Rattle.board.specs.Fitting.{settings_fault, echo_under_two};
+ghost use Rattle.std.specs.Prelude.{◌≡◌, true, Some, None, MatchResult};
+ghost use Rattle.vote.specs.Setting.{grades};
+ghost use Rattle.board.specs.Fitting.{settings_fault, vote_fault, address_fault};
 ghost use Rattle.wire.specs.Fields.{is_within};
 
 use crate::fault::BoardFault;
-use quorum::FailureRule;
-use vote::Method;
+use quorum::{FailureRule, MAX_COVER, MAX_CREW, MIN_COVER};
+use vote::{Depth, Method};
 
 const MAX_ID: u32 = wire::MAX_ID as u32;
 
 const MAX_CHARACTERS: u32 = wire::MAX_VALUE as u32;
 
-const MAX_DEPTH: u32 = 2;
-
-const MAX_CREW: u32 = quorum::MAX_CREW as u32;
-
-const MIN_COVER: u32 = quorum::MIN_COVER as u32;
-
-const MAX_COVER: u32 = quorum::MAX_COVER as u32;
+// The echo method needs a cover of 3.
+const ECHO_COVER: u8 = 3;
 
 // As they are asked for; numbers of any size, so that a bad one gets its refusal.
 #[derive(Clone, Copy)]
@@ -31,64 +27,46 @@ pub struct Settings {
     pub start: u32,
 }
 
-pub(crate) fn within(low: u32, high: u32, number: u32) -> bool
-    ensures { result ≡ is_within low high number }
-{
-    low <= number && number <= high
-}
-
 // What stands against fitting a board with these settings under the rule, by rising number.
 pub fn settings_fault<R: FailureRule>(rule: &R, settings: &Settings) -> Option<BoardFault>
     ensures { result ≡ settings_fault (R.meaning rule.now) settings.now }
 {
-    let crew = rule.crew() as u32;
-    let cover = rule.cover() as u32;
-    let start = within(1, settings.characters, settings.start);
-    let address = within(1, MAX_ID, settings.group) & within(1, MAX_ID, settings.change);
-    let own = settings.board < crew;
-    let found = needs(start, BoardFault::Start, None);
-    let found = needs(address, BoardFault::Address, found);
-    let found = needs(own, BoardFault::Board, found);
-    let found = needs(
-        !echo_under_two(settings.method, cover),
-        BoardFault::EchoCover,
-        found,
-    );
-    let found = needs(
-        within(MIN_COVER, MAX_COVER, cover),
-        BoardFault::Cover,
-        found,
-    );
-    let found = needs(
-        within(1, MAX_DEPTH, settings.depth),
-        BoardFault::Depth,
-        found,
-    );
-    let found = needs(
-        within(1, MAX_CHARACTERS, settings.characters),
-        BoardFault::Characters,
-        found,
-    );
-    needs(within(1, MAX_CREW, crew), BoardFault::Crew, found)
+    settings.fitting(rule).err()
 }
 
-// The fault where the test failed, else what was found after it.
-pub(crate) fn needs(
-    passed: bool,
-    fault: BoardFault,
-    found: Option<BoardFault>,
-) -> Option<BoardFault>
-    ensures { result ≡ (if passed then found else Some fault) }
+// The depth and the last character of a vote, in the sizes that they are kept, or what stands against them under the rule, by rising number.
+pub fn kept_vote<R: FailureRule>(
+    rule: &R,
+    method: Method,
+    depth: u32,
+    characters: u32,
+) -> Result<(Depth, u8), BoardFault>
+    ensures { MatchResult result (λ v. (vote_fault (R.meaning rule.now) method depth characters ≡ None) × (grades v.0 ≡ depth) × (v.1 ≡ characters)) (λ e. vote_fault (R.meaning rule.now) method depth characters ≡ Some e) }
 {
-    if passed { found } else { Some(fault) }
-}
-
-// The echo method needs a cover of 3.
-fn echo_under_two(method: Method, cover: u32) -> bool
-    ensures { result ≡ echo_under_two method cover }
-{
-    match method {
-        Method::Plain => false,
-        Method::Echo => cover < 3,
+    if !(1..=MAX_CREW).contains(&rule.crew()) {
+        return Err(BoardFault::Crew);
     }
+    if !(1..=MAX_CHARACTERS).contains(&characters) {
+        return Err(BoardFault::Characters);
+    }
+    let depth = Depth::try_from(depth).map_err(|_| BoardFault::Depth)?;
+    let cover = rule.cover();
+    if !(MIN_COVER..=MAX_COVER).contains(&cover) {
+        return Err(BoardFault::Cover);
+    }
+    if method == Method::Echo && cover < ECHO_COVER {
+        return Err(BoardFault::EchoCover);
+    }
+    Ok((depth, characters as u8))
+}
+
+// The group and the change, in the sizes that they are kept, unless one is not of those that there are.
+pub fn kept_address(group: u32, change: u32) -> Result<(u16, u16), BoardFault>
+    ensures { MatchResult result (λ a. (address_fault group change ≡ None) × (a.0 ≡ group) × (a.1 ≡ change)) (λ e. address_fault group change ≡ Some e) }
+{
+    let ids = 1..=MAX_ID;
+    if !ids.contains(&group) || !ids.contains(&change) {
+        return Err(BoardFault::Address);
+    }
+    Ok((group as u16, change as u16))
 }

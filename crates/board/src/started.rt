@@ -54,10 +54,7 @@ impl<R: FailureRule> Started<R> {
         ensures accepted { IfOk result (λ x. Accepts (R.meaning self.old.rule) self.old.fitting.fit port bytes.now self.old.state self.new.state x.0 x.1.posted) }
         ensures refused { IfErr result (λ e. (word_taken (R.meaning self.old.rule) self.old.fitting.fit port bytes.now ≡ Err e) × (self.new.state ≡ self.old.state)) }
     {
-        let mut state = self.state;
-        let answer = self.fitting.take(&self.rule, &mut state, port, bytes);
-        self.state = state;
-        answer
+        self.fitting.take(&self.rule, &mut self.state, port, bytes)
     }
 
     // What the board has decided, if it has.
@@ -71,9 +68,7 @@ impl<R: FailureRule> Started<R> {
     pub fn order(&self) -> Option<Order>
         ensures { Orders (R.meaning self.now.rule) self.now.fitting.fit self.now.state result }
     {
-        match self.decided() {
-            None => None,
-            Some(decision) => Some(lamp_order(self.fitting.fit.depth, decision)),
-        }
+        self.decided()
+            .map(|decision| lamp_order(self.fitting.fit.depth, decision))
     }
 }

@@ -1,23 +1,15 @@
 // Which frames a board takes on a port.
-ghost use Rattle.std.specs.Prelude.{◌≡◌, ℕ, cond, Some, Ok, Err, MatchResult};
-ghost use Rattle.wire.specs.Frames.{word_in};
-ghost use Rattle.board.specs.Taking.{kinds_used, least_value, word_fault, port_fault, word_taken};
+ghost use Rattle.std.specs.Prelude.{◌≡◌, ℕ, cond, Ok};
+ghost use Rattle.board.specs.Taking.{kinds_used, least_value, word_fault, port_fault, unless, word_taken};
 
 use crate::fault::BoardFault;
 use crate::fit::Fit;
-use crate::settings::{needs, within};
-use quorum::FailureRule;
+use quorum::{FailureRule, MAX_COVER, MAX_CREW, MIN_COVER};
 use vote::{Depth, Method};
-use wire::{FrameFault, Word, read_frame};
-
-const MAX_CREW: u32 = quorum::MAX_CREW as u32;
-
-const MIN_COVER: u32 = quorum::MIN_COVER as u32;
-
-const MAX_COVER: u32 = quorum::MAX_COVER as u32;
+use wire::{Word, read_frame};
 
 // The highest kind that the method uses at the depth.
-fn kinds_used(method: Method, depth: Depth) -> u32
+fn kinds_used(method: Method, depth: Depth) -> u8
     ensures { result ≡ kinds_used method depth }
 {
     match (method, depth) {
@@ -29,7 +21,7 @@ fn kinds_used(method: Method, depth: Depth) -> u32
 }
 
 // The least value of a kind.
-fn least_value(method: Method, kind: u8) -> u32
+fn least_value(method: Method, kind: u8) -> u8
     ensures { result ≡ least_value method kind }
 {
     match method {
@@ -38,46 +30,46 @@ fn least_value(method: Method, kind: u8) -> u32
     }
 }
 
-// What stands against a word that was read on the port.
-fn word_fault(fit: &Fit, port: u8, word: Word) -> Option<BoardFault>
-    ensures { result ≡ word_fault fit.now port word }
+// The word, unless something stands against it on the port, by rising number.
+#[tactic(auto, unfolding(crate::specs::Taking::word_fault))]
+fn fitting_word(fit: &Fit, port: u8, word: Word) -> Result<Word, BoardFault>
+    ensures { result ≡ unless (word_fault fit.now port word) (Ok word) }
 {
-    let here = (word.group == fit.group) & (word.change == fit.change);
-    let used = within(1, kinds_used(fit.method, fit.depth), word.kind as u32);
-    let low = least_value(fit.method, word.kind);
-    let value = within(low, fit.characters as u32, word.value as u32);
-    let found = needs(value, BoardFault::Value, None);
-    let found = needs(used, BoardFault::Kind, found);
-    let found = needs(word.sender == port, BoardFault::Sender, found);
-    needs(here, BoardFault::Elsewhere, found)
+    if word.group != fit.group || word.change != fit.change {
+        return Err(BoardFault::Elsewhere);
+    }
+    if word.sender != port {
+        return Err(BoardFault::Sender);
+    }
+    if !(1..=kinds_used(fit.method, fit.depth)).contains(&word.kind) {
+        return Err(BoardFault::Kind);
+    }
+    if !(least_value(fit.method, word.kind)..=fit.characters).contains(&word.value) {
+        return Err(BoardFault::Value);
+    }
+    Ok(word)
 }
 
-// What stands against the port.
-fn port_fault<R: FailureRule>(rule: &R, port: u8) -> Option<BoardFault>
-    ensures { result ≡ port_fault (R.meaning rule.now) port }
+// Whether the port is one of a rule's that a board can be fitted under, or what stands against it, by rising number.
+#[tactic(auto, unfolding(crate::specs::Taking::port_fault))]
+fn check_port<R: FailureRule>(rule: &R, port: u8) -> Result<(), BoardFault>
+    ensures { result ≡ unless (port_fault (R.meaning rule.now) port) (Ok tt) }
 {
     let crew = rule.crew();
-    let cover = rule.cover() as u32;
-    let found = needs(port < crew, BoardFault::Port, None);
-    let found = needs(
-        within(MIN_COVER, MAX_COVER, cover),
-        BoardFault::Cover,
-        found,
-    );
-    needs(within(1, MAX_CREW, crew as u32), BoardFault::Crew, found)
-}
-
-// The word of a frame, and with a refusal the board's number.
-fn read_on(board: u8, bytes: &[u8]) -> Result<Word, (u8, FrameFault)>
-    ensures { MatchResult result (λ w. word_in bytes.now ≡ Ok w) (λ e. (e.0 ≡ board) × (word_in bytes.now ≡ Err e.1)) }
-{
-    match read_frame(bytes) {
-        Ok(word) => Ok(word),
-        Err(fault) => Err((board, fault)),
+    if !(1..=MAX_CREW).contains(&crew) {
+        return Err(BoardFault::Crew);
     }
+    if !(MIN_COVER..=MAX_COVER).contains(&rule.cover()) {
+        return Err(BoardFault::Cover);
+    }
+    if port >= crew {
+        return Err(BoardFault::Port);
+    }
+    Ok(())
 }
 
 // The word that is taken on the port, or the refusal.
+#[tactic(auto, unfolding(crate::specs::Taking::word_taken))]
 pub(crate) fn word_taken<R: FailureRule>(
     rule: &R,
     fit: &Fit,
@@ -86,12 +78,7 @@ pub(crate) fn word_taken<R: FailureRule>(
 ) -> Result<Word, BoardFault>
     ensures { result ≡ word_taken (R.meaning rule.now) fit.now port bytes.now }
 {
-    if let Some(fault) = port_fault(rule, port) {
-        return Err(fault);
-    }
-    let word = read_on(fit.board, bytes)?;
-    if let Some(fault) = word_fault(fit, port, word) {
-        return Err(fault);
-    }
-    Ok(word)
+    check_port(rule, port)?;
+    let word = read_frame(bytes).map_err(|fault| (fit.board, fault))?;
+    fitting_word(fit, port, word)
 }

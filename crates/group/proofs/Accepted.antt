@@ -1,6 +1,6 @@
 -- What an accepted opening settles: good terms, and records of boards that have counted nothing. Assumes nothing.
-use Rattle.std.proofs.Common.{◌≡◌, ℕ, zero, suc, ◌<◌, ◌≤◌, Bool, true, false, cond, not, ◌&&◌, ltb, leb, List, [], ◌∷◌, length, get_or, take, Some, None, Option, sym, refl, ap, ◌∙◌, subst, ⊎_elim, arith}
-use Rattle.std.proofs.lemmas.List.FromFn.{fill_by_all, length-map-range_with_len}
+use Rattle.std.proofs.Common.{◌≡◌, ℕ, zero, suc, ◌<◌, ◌≤◌, Bool, true, false, cond, not, ◌&&◌, ltb, leb, List, [], ◌∷◌, length, get_or, take, replicate, Some, None, Option, sym, refl, ap, ◌∙◌, subst, ⊎_elim, arith}
+use Rattle.std.proofs.lemmas.List.FromFn.{length-map-range_with_len}
 use Rattle.std.proofs.lemmas.Bool.{and_parts, and_from, eq-eqb, cond-true, cond-false, ltb-false, le-leb, lt-ltb, le-ltb, not-true, cases_lt}
 use Rattle.quorum.specs.Rules.{Rule}
 use Rattle.quorum.specs.Sets.{all_pass}
@@ -8,22 +8,19 @@ use Rattle.vote.specs.declared.Method.{Method}
 use Rattle.vote.specs.declared.Method.TheVariants.{Plain, Echo}
 use Rattle.vote.proofs.Options.{holds_none}
 use Rattle.agreement.specs.Methods.{needed_cover}
-use Rattle.agreement.specs.Runs.{start_of, history}
+use Rattle.agreement.specs.Runs.{start_of}
 use Rattle.heard.specs.Shown.{table}
 use Rattle.heard.proofs.Read.{table_at}
 use Rattle.wire.specs.Fields.{is_within}
 use Rattle.wire.proofs.FrameText.{within_parts, within_from}
 use Rattle.board.specs.Fitting.{echo_under_two}
-use Rattle.board.specs.Shown.{record_of}
 use Rattle.group.specs.declared.fault.GroupFault.{GroupFault}
 use Rattle.group.specs.declared.opening.Opening.{Opening}
-use Rattle.group.specs.declared.records.Board.{Board}
 use Rattle.group.specs.declared.terms.Terms.{Terms}
 use Rattle.group.specs.Calls.{board_of, records_of, run_of, after}
 use Rattle.group.specs.Opening.{opening_fault, kept_start, GoodOpening, Settles}
 use Rattle.group.specs.Promises.{Opened}
 use Rattle.group.specs.Sound.{all_characters, sound_terms}
-use Rattle.group.specs.Terms.{fit_at}
 use Rattle.group.proofs.Numbers.{character_at}
 
 -- ---- tests of a list, place by place
@@ -129,7 +126,6 @@ module _ (R : Rule) (o : Opening) (none : opening_fault R o ≡ None) where
       }
 
 -- ---- the records
-pub first_records : (R : Rule) (T : Terms) (bs : List Board) (d : Board) → length bs ≡ 16
-    → ((j : ℕ) → j < 16 → get_or bs j d ≡ record { begun = false; state = record_of R (fit_at T j) [] }) → record { boards = bs } ≡ after R T []
-unfolding after run_of records_of board_of start_of history
-first_records R T bs d len at = ap (λ (y : List Board). record { boards = y }) (fill_by_all (board_of R T []) bs 16 d len at)
+pub first_records : (R : Rule) (T : Terms) → record { boards = replicate 16 None } ≡ after R T []
+unfolding after run_of records_of board_of start_of
+first_records R T = refl

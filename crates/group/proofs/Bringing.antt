@@ -11,12 +11,11 @@ use Rattle.wire.proofs.FrameText.{carried_ranges, frame_max_length}
 use Rattle.wire.proofs.Ranging.{ranges_none}
 use Rattle.wire.proofs.Outcomes.{ok_same, ok_not_err}
 use Rattle.wire.proofs.PutAt.{front_filled}
-use Rattle.board.specs.declared.fault.BoardFault.{BoardFault}
 use Rattle.group.specs.declared.fault.GroupFault.{GroupFault}
 use Rattle.group.specs.declared.records.Records.{Records}
 use Rattle.group.specs.declared.terms.Terms.{Terms}
 use Rattle.group.specs.declared.turn.Turn.{Turn}
-use Rattle.group.specs.Steps.{raised, Takes, Brings}
+use Rattle.group.specs.Steps.{Takes, Brings}
 
 -- a word that a frame can carry is written
 pub written_is : (w : Word) → carried w ≡ true → word_written w 19 ≡ Ok (length (frame_of w))
@@ -35,9 +34,6 @@ frame_read w n old buf len q is p =
     let same : n - 0 ≡ length (frame_of w) = omega (arith, whole) in
     ap (λ (k : ℕ). take k buf) same ∙ ap (take (length (frame_of w))) is ∙ front_filled (frame_of w) (length old)
 
-module _ (R : Rule) (T : Terms) (j : ℕ) (w : Word) (o p : Records) where
-  pub brought : (xs : List ℕ) (a : Result Turn (ℕ × BoardFault)) (r : Result Turn GroupFault) → (carried w ≡ true → xs ≡ frame_of w) → r ≡ raised a → Takes R T j w.sender xs o p a
-      → Brings R T j w o p r
-  brought xs a r is up takes good h shown =
-      let t = subst (λ (ys : List ℕ). Takes R T j w.sender ys o p a) (is good) takes h shown in
-      (t.0, up ∙ t.1)
+pub brought : (R : Rule) (T : Terms) (j : ℕ) (w : Word) (o p : Records) (xs : List ℕ) (r : Result Turn GroupFault) → (carried w ≡ true → xs ≡ frame_of w) → Takes R T j w.sender xs o p r
+    → Brings R T j w o p r
+brought R T j w o p xs r is takes good = subst (λ (ys : List ℕ). Takes R T j w.sender ys o p r) (is good) takes

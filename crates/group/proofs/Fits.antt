@@ -1,5 +1,5 @@
 -- The settings of a board in a group are good, and which boards lie. Assumes nothing.
-use Rattle.std.proofs.Common.{◌≡◌, ℕ, ◌<◌, Bool, true, false, ◌&&◌, refl, arith}
+use Rattle.std.proofs.Common.{◌≡◌, ℕ, ◌<◌, Bool, true, false, ◌&&◌, length, refl, arith}
 use Rattle.std.proofs.lemmas.Bool.{and_from}
 use Rattle.quorum.specs.Rules.{Rule}
 use Rattle.quorum.specs.Sets.{member}
@@ -13,14 +13,14 @@ use Rattle.group.specs.declared.terms.Terms.{Terms}
 use Rattle.group.specs.Terms.{setting_in, start_at, lies}
 use Rattle.group.proofs.Numbers.{numbers}
 
-pub fit_sound : (T : Terms) (i : ℕ) → i < 16 → sound_fit T.characters T.group T.change i (start_at T i) ≡ true
-fit_sound T i l =
+pub fit_sound : (T : Terms) (i s : ℕ) → i < length T.starts → s ≡ start_at T i → sound_fit T.characters T.group T.change i s ≡ true
+fit_sound T i s l is =
     let n = numbers T in
-    let s = n.start_fits i l in
+    let k = n.start_fits i (omega (arith, l, n.sixteen)) in
     and_from _ _ (within_from 1 8 T.characters n.characters_low n.characters_high)
     (and_from _ _ (within_from 1 65535 T.group n.group_low n.group_high)
     (and_from _ _ (within_from 1 65535 T.change n.change_low n.change_high)
-    (and_from _ _ (within_from 0 15 i (omega arith) (omega (arith, l))) (within_from 1 T.characters (start_at T i) s.0 s.1))))
+    (and_from _ _ (within_from 0 15 i (omega arith) (omega (arith, l, n.sixteen))) (within_from 1 T.characters s (omega (arith, is, k.0)) (omega (arith, is, k.1))))))
 
 plain_lies : (m : Method) (S : Setting) (b : Bool) → m ≡ Plain → false ≡ ((method_of m S).may_lie && b)
 plain_lies Plain S b e = refl

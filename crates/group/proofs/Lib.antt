@@ -14,3 +14,5 @@ pub mod Played
 pub mod Asked
 pub mod Accepted
 pub mod Promised
+pub mod Decided
+pub mod Called

@@ -20,6 +20,7 @@ pub record Numbers (T : Terms) : Type 0 where
   pub group_high : T.group ≤ 65535
   pub change_low : 1 ≤ T.change
   pub change_high : T.change ≤ 65535
+  pub sixteen : length T.starts ≡ 16
   pub start_fits : (i : ℕ) → i < 16 → (1 ≤ start_at T i) × (start_at T i ≤ T.characters)
 
 pub numbers : (T : Terms) → Numbers T
@@ -37,5 +38,6 @@ numbers T =
       group_high = (within_parts 1 max_id T.group g.0).1;
       change_low = (within_parts 1 max_id T.change c.0).0;
       change_high = (within_parts 1 max_id T.change c.0).1;
+      sixteen = len;
       start_fits = λ i l. character_at T.characters T.starts i s.1 (omega (arith, l, len));
     }

@@ -1,5 +1,6 @@
 -- What the records tell of the words posted. Assumes nothing.
-use Rattle.std.proofs.Common.{◌≡◌, ℕ, ◌<◌, Bool, true, List, get_or, subst}
+use Rattle.std.proofs.Common.{◌≡◌, ℕ, ◌<◌, Bool, true, List, Some, None, is_some, get_or, sym, ap, ◌∙◌, subst}
+use Rattle.std.proofs.lemmas.Bool.{false≢true}
 use Rattle.quorum.specs.Rules.{Rule, Lawful}
 use Rattle.vote.specs.declared.Vote.{Vote}
 use Rattle.vote.specs.Search.{given}
@@ -7,13 +8,12 @@ use Rattle.agreement.specs.Runs.{start_of, history, posted}
 use Rattle.board.specs.declared.fit.Fit.{Fit}
 use Rattle.board.specs.declared.record.Record.{Record}
 use Rattle.board.specs.Shown.{record_of, setting_of, method_of}
-use Rattle.group.specs.declared.records.Board.{Board}
 use Rattle.group.specs.declared.records.Records.{Records}
 use Rattle.group.specs.declared.terms.Terms.{Terms}
 use Rattle.group.specs.Calls.{Call, run_of, after}
 use Rattle.group.specs.Promises.{Opened}
 use Rattle.group.specs.Terms.{method_in, fit_at}
-use Rattle.group.proofs.Shown.{state_at}
+use Rattle.group.proofs.Shown.{begun_at, record_at}
 use Rattle.group.proofs.Standing.{posted_is}
 
 -- a board with these settings tells of its record whether the word is posted
@@ -21,9 +21,15 @@ abbrev pub TellsPosted : Fit → Record → ℕ → ℕ → Bool → Type 0
 TellsPosted f s c v b = (R : Rule) (h : List Vote) → s ≡ record_of R f h → b ≡ (method_of f.method (setting_of R f)).posts f.start h c v
 
 module _ {R : Rule} {T : Terms} (law : Lawful R) (accepted : Opened R T) (xs : List Call) (o : Records) (shown : o ≡ after R T xs) where
-  pub posted_told : (i c v : ℕ) (d : Board) (f : Fit) (b : Bool) → i < 16 → given (start_of (run_of R T xs) i) ≡ true → f ≡ fit_at T i
-      → TellsPosted f (get_or o.boards i d).state c v b → b ≡ posted (method_in R T) (run_of R T xs) i c v
+  -- a board that has started has a record
+  pub started_there : (i : ℕ) → i < 16 → given (start_of (run_of R T xs) i) ≡ true → get_or o.boards i None ≡ None → ⊥
   unfolding after
-  posted_told i c v d f b l on is tells =
-      let t : TellsPosted (fit_at T i) (get_or o.boards i d).state c v b = subst (λ (x : Fit). TellsPosted x (get_or o.boards i d).state c v b) is tells in
-      posted_is law accepted xs i c v b on (t R (history (run_of R T xs) i) (state_at R T (run_of R T xs) o shown i d l))
+  started_there i l on none = false≢true (ap is_some (sym none) ∙ begun_at R T (run_of R T xs) o shown i l ∙ on)
+
+  pub posted_told : (i c v : ℕ) (s : Record) (f : Fit) (b : Bool) → get_or o.boards i None ≡ Some s → f ≡ fit_at T i
+      → TellsPosted f s c v b → b ≡ posted (method_in R T) (run_of R T xs) i c v
+  unfolding after
+  posted_told i c v s f b at is tells =
+      let t : TellsPosted (fit_at T i) s c v b = subst (λ (x : Fit). TellsPosted x s c v b) is tells in
+      let k = record_at R T (run_of R T xs) o shown i s at in
+      posted_is law accepted xs i c v b k.0 (t R (history (run_of R T xs) i) k.1)

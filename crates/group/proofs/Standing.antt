@@ -4,7 +4,7 @@ use Rattle.std.proofs.lemmas.Bool.{and_parts, ltb-true}
 use Rattle.quorum.specs.Rules.{Rule, Lawful}
 use Rattle.quorum.specs.Truth.{false_unless}
 use Rattle.vote.specs.Search.{given}
-use Rattle.vote.proofs.Options.{given_found, holds_none}
+use Rattle.vote.proofs.Options.{given_found}
 use Rattle.agreement.specs.Runs.{Event, start_of, history, posted}
 use Rattle.board.specs.Shown.{setting_of, method_of}
 use Rattle.group.specs.declared.fault.GroupFault.{GroupFault}
@@ -28,14 +28,6 @@ four a false b b' c c' d d' x y z w p q r s = rw p
 four a true b false c c' d d' x y z w p q r s = rw (p, q refl)
 four a true b true c false d d' x y z w p q r s = rw (p, q refl, r refl refl)
 four a true b true c true d d' x y z w p q r s = rw (p, q refl, r refl refl, s refl refl refl)
-
--- none of the four fails
-four_none : (a b c d : Bool) (x y z w : GroupFault) → cond a (cond b (cond c (cond d None (Some w)) (Some z)) (Some y)) (Some x) ≡ None → (a ≡ true) × (c ≡ true) × (d ≡ true)
-four_none false b c d x y z w e = holds_none (sym e)
-four_none true false c d x y z w e = holds_none (sym e)
-four_none true true false d x y z w e = holds_none (sym e)
-four_none true true true false x y z w e = holds_none (sym e)
-four_none true true true true x y z w e = (refl, refl, refl)
 
 and_both : (a b a' b' : Bool) → a ≡ a' → b ≡ b' → (a && b) ≡ (a' && b')
 and_both a b a' b' p q = rw (p, q)
@@ -86,17 +78,3 @@ module _ {R : Rule} {T : Terms} (law : Lawful R) (accepted : Opened R T) (xs : L
   pub value_unposted : (i c v : ℕ) → i < R.crew → 8 < v → false ≡ posted (method_in R T) run i c v
   value_unposted i c v l h =
       sym (false_unless _ (λ p. let w = word_ranges law accepted run (run_legal law accepted xs) i c v l p in omega (arith, h, w.value_high)))
-
--- ---- tests one behind the other
-pub chain_three : (a b c : Bool) (x y z : GroupFault) (r s t : Option GroupFault) → t ≡ cond c None (Some z) → s ≡ cond b t (Some y) → r ≡ cond a s (Some x)
-    → r ≡ cond a (cond b (cond c None (Some z)) (Some y)) (Some x)
-chain_three a b c x y z r s t p q u = u ∙ ap (λ o. cond a o (Some x)) (q ∙ ap (λ o. cond b o (Some y)) p)
-
-pub chain_four : (a b c d : Bool) (x y z w : GroupFault) (r s t v : Option GroupFault) → v ≡ cond d None (Some w) → t ≡ cond c v (Some z) → s ≡ cond b t (Some y) → r ≡ cond a s (Some x)
-    → r ≡ cond a (cond b (cond c (cond d None (Some w)) (Some z)) (Some y)) (Some x)
-chain_four a b c d x y z w r s t v o p q u = u ∙ ap (λ k. cond a k (Some x)) (q ∙ ap (λ k. cond b k (Some y)) (p ∙ ap (λ k. cond c k (Some z)) o))
-
--- where no fault is found, the first, the third and the last test have passed
-pub chain_none : (a b c d : Bool) (x y z w : GroupFault) (r s t v : Option GroupFault) → v ≡ cond d None (Some w) → t ≡ cond c v (Some z) → s ≡ cond b t (Some y) → r ≡ cond a s (Some x)
-    → r ≡ None → (a ≡ true) × (c ≡ true) × (d ≡ true)
-chain_none a b c d x y z w r s t v o p q u none = four_none a b c d x y z w (sym (chain_four a b c d x y z w r s t v o p q u) ∙ none)

@@ -14,12 +14,12 @@ use Rattle.board.specs.declared.answer.Taken.{Taken}
 use Rattle.board.specs.declared.answer.Taken.TheVariants.{Counted, Again}
 use Rattle.board.specs.declared.fault.BoardFault.{BoardFault}
 use Rattle.board.specs.declared.fit.Fit.{Fit}
+use Rattle.board.specs.declared.record.Record.{Record}
 use Rattle.board.specs.Shown.{record_of, answer_of, repeats, with_vote}
 use Rattle.board.specs.Started.{told_of, slip_of, first_posted}
 use Rattle.board.specs.Taking.{word_taken, vote_of}
 use Rattle.group.specs.declared.fault.GroupFault.{GroupFault}
 use Rattle.group.specs.declared.fault.GroupFault.TheVariants.{Outside, Listed, Begun, Idle, Unlisted, Unposted, Board as Refuses}
-use Rattle.group.specs.declared.records.Board.{Board}
 use Rattle.group.specs.declared.records.Records.{Records}
 use Rattle.group.specs.declared.terms.Terms.{Terms}
 use Rattle.group.specs.declared.turn.Done.{Done}
@@ -66,8 +66,9 @@ module _ (R : Rule) (f : Fit) where
 
 module _ (R : Rule) (T : Terms) where
   -- ---- the records that a run leads to
-  unfoldable pub board_of : List Event → ℕ → Board
-  board_of r i = record { begun = given (start_of r i); state = record_of R (fit_at T i) (history r i) }
+  -- none of a board that has not started, and then the one that shows what it has counted
+  unfoldable pub board_of : List Event → ℕ → Option Record
+  board_of r i = cond (given (start_of r i)) (Some (record_of R (fit_at T i) (history r i))) None
 
   unfoldable pub records_of : List Event → Records
   records_of r = record { boards = table 16 (board_of r) }

@@ -1,10 +1,12 @@
 // Why a group is not opened, or a call on it is refused.
 ghost use Rattle.std.specs.Prelude.{◌≡◌};
 ghost use Rattle.group.specs.Faults.{refusal_of};
+ghost use Rattle.board.specs.declared.fault.BoardFault.TheVariants.{Frame};
 ghost use Rattle.group.specs.declared.fault.GroupFault.TheVariants.{Board};
 
 use board::BoardFault;
 use refusal::Refusal;
+use wire::FrameFault;
 
 #[derive(Clone, Copy, PartialEq, Debug)]
 pub enum GroupFault {
@@ -38,15 +40,9 @@ impl GroupFault {
         let number = match *self {
             GroupFault::Opening(fault) => return fault.refusal(),
             GroupFault::Board(board, fault) => {
-                let Refusal {
-                    number,
-                    place,
-                    board: _,
-                } = fault.refusal();
                 return Refusal {
-                    number,
-                    place,
                     board: Some(board),
+                    ..fault.refusal()
                 };
             }
             GroupFault::NoGroup => 21,
@@ -72,5 +68,14 @@ impl From<(u8, BoardFault)> for GroupFault {
 
     fn from(e: (u8, BoardFault)) -> GroupFault {
         GroupFault::Board(e.0, e.1)
+    }
+}
+
+// What comes up from a frame that a board cannot read or write is what the board refuses.
+impl From<(u8, FrameFault)> for GroupFault {
+    ghost from_gives = { λ e r. r ≡ Board e.0 (Frame e.0 e.1) };
+
+    fn from(e: (u8, FrameFault)) -> GroupFault {
+        GroupFault::Board(e.0, BoardFault::Frame(e.0, e.1))
     }
 }

@@ -1,12 +1,11 @@
-// A group that is open, and the calls that work on it.
-ghost use Rattle.std.specs.Prelude.{◌≡◌};
-ghost use Rattle.group.specs.Calls.{starting, carrying, forging};
-ghost use Rattle.group.specs.Promises.{Plays, TellsDecided};
+// A group that is open, and what is asked of it.
+ghost use Rattle.std.specs.Prelude.{◌≡◌, ◌<◌, ◌≤◌, ◌&&◌, true, None, is_some, option_copied, nat_lt, slice_index_or};
+ghost use Rattle.group.specs.Promises.{TellsDecided};
+ghost use Rattle.group.specs.Steps.{TellsPosted};
 
-use crate::fault::GroupFault;
 use crate::records::Records;
 use crate::terms::Terms;
-use crate::turn::Turn;
+use board::Record;
 use quorum::FailureRule;
 use vote::Decision;
 
@@ -18,46 +17,50 @@ pub struct Group<R: FailureRule> {
 }
 
 impl<R: FailureRule> Group<R> {
-    // Starts a board.
-    pub fn start(&mut self, board: u16) -> Result<Turn, GroupFault>
-        ensures same { (self.new.rule ≡ self.old.rule) × (self.new.terms ≡ self.old.terms) }
-        ensures plays { Plays (R.meaning self.old.rule) self.old.terms (starting board) self.old.records self.new.records result }
-    {
-        let mut records = self.records;
-        let answer = records.start(&self.rule, &self.terms, board);
-        self.records = records;
-        answer
-    }
-
-    // Takes a word that `from` has posted to `to`, which counts it.
-    pub fn carry(&mut self, to: u16, from: u16, kind: u16, value: u16) -> Result<Turn, GroupFault>
-        ensures same { (self.new.rule ≡ self.old.rule) × (self.new.terms ≡ self.old.terms) }
-        ensures plays { Plays (R.meaning self.old.rule) self.old.terms (carrying to from kind value) self.old.records self.new.records result }
-    {
-        let mut records = self.records;
-        let answer = records.carry(&self.rule, &self.terms, to, from, kind, value);
-        self.records = records;
-        answer
-    }
-
-    // Takes bytes, whatever they are, to `to` on the port of a listed board.
-    pub fn forge(&mut self, to: u16, from: u16, bytes: &[u8]) -> Result<Turn, GroupFault>
-        ensures same { (self.new.rule ≡ self.old.rule) × (self.new.terms ≡ self.old.terms) }
-        ensures plays { Plays (R.meaning self.old.rule) self.old.terms (forging to from bytes.now) self.old.records self.new.records result }
-    {
-        let mut records = self.records;
-        let answer = records.forge(&self.rule, &self.terms, to, from, bytes);
-        self.records = records;
-        answer
-    }
-
     // What a board has decided, if it has.
     pub fn decided(&self, board: u16) -> Option<Decision>
         ensures { TellsDecided (R.meaning self.now.rule) self.now.terms self.now.records board result }
     {
-        if board >= 16 {
-            return None;
+        self.record(board)?.decided()
+    }
+
+    // The record of a board, if it has started.
+    fn record(&self, board: u16) -> Option<&Record>
+        ensures { option_copied result ≡ slice_index_or self.now.records.boards board None }
+    {
+        self.records.boards.get(board as usize)?.as_ref()
+    }
+
+    // Whether both boards are of the crew.
+    pub(crate) fn has_both(&self, to: u16, from: u16) -> bool
+        ensures value { result ≡ (nat_lt to (R.meaning self.now.rule).crew && nat_lt from (R.meaning self.now.rule).crew) }
+        ensures within { result ≡ true → (to < 256) × (from < 256) }
+    {
+        let crew = u16::from(self.rule.crew());
+        to < crew && from < crew
+    }
+
+    // Whether the board has started.
+    pub(crate) fn begun(&self, board: u16) -> bool
+        ensures { result ≡ is_some (slice_index_or self.now.records.boards board None) }
+    {
+        self.record(board).is_some()
+    }
+
+    // Whether a board that has started has posted the word, whatever these numbers are.
+    pub(crate) fn posted(&self, board: u16, kind: u16, value: u16) -> bool
+        ensures value { TellsPosted (R.meaning self.now.rule) self.now.terms self.now.records board kind value result }
+        ensures within { result ≡ true → (kind ≤ 5) × (value ≤ 8) }
+    {
+        if kind > wire::MAX_KIND || value > wire::MAX_VALUE {
+            return false;
         }
-        self.records.boards[board as usize].state.decided()
+        let Some(fitting) = self.terms.fitting(board) else {
+            return false;
+        };
+        let Some(record) = self.record(board) else {
+            return false;
+        };
+        fitting.has_posted(record, kind as u8, value as u8)
     }
 }

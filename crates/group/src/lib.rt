@@ -4,7 +4,6 @@
 #![tactic(auto)]
 
 mod fault;
-mod faults;
 mod group;
 mod limits;
 mod opened;
@@ -20,6 +19,6 @@ pub use fault::GroupFault;
 pub use group::Group;
 pub use limits::SCRATCH;
 pub use opening::{Opening, opening_fault};
-pub use records::{Board, Records};
+pub use records::Records;
 pub use terms::Terms;
 pub use turn::{Done, Turn};

@@ -2,17 +2,14 @@
 ghost use Rattle.std.specs.Prelude.{◌≡◌, ◌≤◌, [], if◌then◌else◌, Some, None, MatchResult, nat_le};
 ghost use Rattle.quorum.specs.Rules.{Rule};
 ghost use Rattle.heard.specs.Shown.{table};
-ghost use Rattle.group.specs.Calls.{after};
 ghost use Rattle.group.specs.Opening.{opening_fault, Settles, kept_start, GoodOpening};
 ghost use Rattle.group.specs.Promises.{Reached};
 
 use crate::fault::GroupFault;
 use crate::group::Group;
 use crate::opening::{Opening, opening_fault};
-use crate::records::{Board, Records};
+use crate::records::Records;
 use crate::terms::Terms;
-use board::Record;
-use plain_board::PlainRecord;
 use quorum::FailureRule;
 use vote::Depth;
 
@@ -60,26 +57,6 @@ fn settled(opening: &Opening, crew: u8) -> Terms
     }
 }
 
-impl Terms {
-    // The records of boards that are fitted and have counted nothing.
-    fn records(&self) -> Records
-        ensures { (R : Rule) → result ≡ after R self.now [] }
-    {
-        let blank = Board {
-            begun: false,
-            state: Record::Gathers(PlainRecord::start()),
-        };
-        let mut boards = [blank; 16];
-        for i in 0..16 {
-            boards[i] = Board {
-                begun: false,
-                state: self.fitting(i as u8).record(),
-            };
-        }
-        Records { boards }
-    }
-}
-
 impl<R: FailureRule + Drop> Group<R> {
     // Opens a group, or tells what stands against it.
     pub fn open(rule: R, opening: &Opening) -> Result<Group<R>, GroupFault>
@@ -89,7 +66,7 @@ impl<R: FailureRule + Drop> Group<R> {
             return Err(fault);
         }
         let terms = settled(opening, rule.crew());
-        let records = terms.records();
+        let records = Records { boards: [None; 16] };
         Ok(Group {
             rule,
             terms,

@@ -6,7 +6,6 @@ ghost use Rattle.group.specs.Opening.{opening_fault};
 ghost use Rattle.group.specs.Sound.{all_characters};
 
 use crate::fault::GroupFault;
-use crate::faults::needs;
 use board::BoardFault;
 use quorum::FailureRule;
 use vote::Method;
@@ -60,6 +59,13 @@ fn at_most(crew: u8) -> usize
     } else {
         16
     }
+}
+
+// The fault where the test failed, else what was found after it.
+fn needs(passed: bool, fault: GroupFault, found: Option<GroupFault>) -> Option<GroupFault>
+    ensures { result ≡ (if passed then found else Is fault) }
+{
+    if passed { found } else { Some(fault) }
 }
 
 // What stands against opening a group under the rule, by rising number.

@@ -1,5 +1,5 @@
 // What the terms of a group settle for each board.
-ghost use Rattle.std.specs.Prelude.{◌≡◌, ◌<◌};
+ghost use Rattle.std.specs.Prelude.{◌≡◌, ◌<◌, ◌≤◌, MatchOption};
 ghost use Rattle.quorum.specs.Rules.{Rule};
 ghost use Rattle.quorum.specs.Sets.{member};
 ghost use Rattle.group.specs.Terms.{fit_at, lies as lies_in};
@@ -19,21 +19,21 @@ fn has(set: u16, board: u16) -> bool
 }
 
 impl Terms {
-    // The settings of a board.
-    pub(crate) fn fitting(&self, board: u8) -> Fitting
-        requires { board < 16 }
-        ensures { result.fit ≡ fit_at self.now board }
+    // The settings of a board, if it is one of the sixteen that there can be.
+    pub(crate) fn fitting(&self, board: u16) -> Option<Fitting>
+        ensures { MatchOption result (16 ≤ board) (λ k. (board < 16) × (k.fit ≡ fit_at self.now board)) }
     {
+        let start = *self.starts.get(board as usize)?;
         let fit = Fit {
             method: self.method,
             depth: self.depth,
             characters: self.characters,
             group: self.group,
             change: self.change,
-            board,
-            start: self.starts[board as usize],
+            board: board as u8,
+            start,
         };
-        Fitting { fit }
+        Some(Fitting { fit })
     }
 
     // Whether the board is listed, and the method lets listed boards say anything.

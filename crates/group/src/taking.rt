@@ -1,62 +1,60 @@
 // A board of the group takes a frame.
-ghost use Rattle.std.specs.Prelude.{◌≡◌, ◌<◌};
-ghost use Rattle.group.specs.Calls.{done_of};
-ghost use Rattle.group.specs.Steps.{BoardTakes, Takes};
+ghost use Rattle.std.specs.Prelude.{◌≡◌};
+ghost use Rattle.group.specs.Steps.{BoardTakes, Brings, Takes};
 
-use crate::records::{Board, Records};
-use crate::terms::Terms;
-use crate::turn::{Done, Turn, written};
-use board::{BoardFault, Fitting, Taken};
+use crate::fault::GroupFault;
+use crate::group::Group;
+use crate::turn::{Turn, written};
+use board::{BoardFault, Fitting, Record};
 use quorum::FailureRule;
+use wire::{FRAME_MAX, Word, write_word};
 
-fn done(taken: Taken) -> Done
-    ensures { result ≡ done_of taken }
+// A board that has started takes the bytes on the port, and its slip is written.
+fn taken<R: FailureRule>(
+    rule: &R,
+    fitting: &Fitting,
+    slot: &mut Option<Record>,
+    port: u8,
+    bytes: &[u8],
+) -> Result<Turn, GroupFault>
+    ensures { BoardTakes (R.meaning rule.now) fitting.now.fit port bytes.now slot.old slot.new result }
 {
-    match taken {
-        Taken::Counted => Done::Counted,
-        Taken::Again => Done::Again,
-    }
+    let board = fitting.fit.board;
+    let Some(record) = slot else {
+        return Err(GroupFault::Idle);
+    };
+    let (taken, slip) = fitting
+        .take(rule, record, port, bytes)
+        .map_err(|fault| (board, fault))?;
+    let turn = written(taken.into(), slip).map_err(|fault| (board, fault))?;
+    Ok(turn)
 }
 
-impl Board {
-    // The board takes the bytes on the port, and its slip is written.
-    fn take<R: FailureRule>(
-        &mut self,
-        rule: &R,
-        fitting: &Fitting,
-        port: u8,
-        bytes: &[u8],
-    ) -> Result<Turn, (u8, BoardFault)>
-        ensures { BoardTakes (R.meaning rule.now) fitting.now.fit port bytes.now self.old self.new result }
+impl<R: FailureRule> Group<R> {
+    // Board `to`, which has started, takes the bytes on the port.
+    pub(crate) fn take(&mut self, to: u16, port: u8, bytes: &[u8]) -> Result<Turn, GroupFault>
+        ensures same { (self.new.rule ≡ self.old.rule) × (self.new.terms ≡ self.old.terms) }
+        ensures takes { Takes (R.meaning self.old.rule) self.old.terms to port bytes.now self.old.records self.new.records result }
     {
-        let board = fitting.fit.board;
-        match fitting.take(rule, &mut self.state, port, bytes) {
-            Err(fault) => Err((board, fault)),
-            Ok(told) => {
-                let (taken, slip) = told;
-                match written(done(taken), slip) {
-                    Ok(turn) => Ok(turn),
-                    Err(fault) => Err((board, BoardFault::Frame(board, fault))),
-                }
-            }
-        }
+        let Some(fitting) = self.terms.fitting(to) else {
+            return Err(GroupFault::Outside);
+        };
+        taken(
+            &self.rule,
+            &fitting,
+            &mut self.records.boards[to as usize],
+            port,
+            bytes,
+        )
     }
-}
 
-impl Records {
-    // Board `to` takes the bytes on the port.
-    pub(crate) fn take<R: FailureRule>(
-        &mut self,
-        rule: &R,
-        terms: &Terms,
-        to: u8,
-        port: u8,
-        bytes: &[u8],
-    ) -> Result<Turn, (u8, BoardFault)>
-        requires { to < 16 }
-        ensures { Takes (R.meaning rule.now) terms.now to port bytes.now self.old self.new result }
+    // Writes the word as a frame, which board `to`, which has started, takes on the sender's port.
+    pub(crate) fn bring(&mut self, to: u16, word: Word) -> Result<Turn, GroupFault>
+        ensures same { (self.new.rule ≡ self.old.rule) × (self.new.terms ≡ self.old.terms) }
+        ensures brings { Brings (R.meaning self.old.rule) self.old.terms to word self.old.records self.new.records result }
     {
-        let fitting = terms.fitting(to);
-        self.boards[to as usize].take(rule, &fitting, port, bytes)
+        let mut frame = [0; FRAME_MAX];
+        let len = write_word(word, &mut frame).map_err(|fault| (word.sender, fault))?;
+        self.take(to, word.sender, &frame[..len])
     }
 }

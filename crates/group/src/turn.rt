@@ -1,9 +1,10 @@
 // What an accepted call answers.
 ghost use Rattle.std.specs.Prelude.{◌≡◌, ◌*◌, ◌≤◌, true, length, is_ok, IfOk};
 ghost use Rattle.wire.specs.Slips.{words_of};
-ghost use Rattle.group.specs.Calls.{turn_of};
+ghost use Rattle.group.specs.Calls.{done_of, turn_of};
 
 use crate::limits::SCRATCH;
+use board::Taken;
 use wire::{FrameFault, SLIP_MAX, Slip};
 
 #[derive(Clone, Copy, PartialEq, Eq, Debug)]
@@ -14,6 +15,17 @@ pub enum Done {
     Counted,
     // the word was found counted already
     Again,
+}
+
+impl From<Taken> for Done {
+    ghost from_gives = { λ t r. r ≡ done_of t };
+
+    fn from(taken: Taken) -> Done {
+        match taken {
+            Taken::Counted => Done::Counted,
+            Taken::Again => Done::Again,
+        }
+    }
 }
 
 #[derive(Clone, Copy)]

@@ -1,6 +1,6 @@
 use Rattle.std.proofs.Common.{ℕ, sym, refl, ◌∙◌, subst}
 use Rattle.group.specs.Opening.{GoodOpening}
-use Rattle.group.proofs.Accepted.{accepted_parts, opened}
+use Rattle.group.proofs.Accepted.{accepted_parts, opened, first_records}
 use Rattle.group.proofs.group.Group.open.Goals as goal
 
 pub settled-terms-requires : goal.settled-terms-requires
@@ -15,4 +15,4 @@ returns g c =
     let o = c.args.opening.now in
     let none = sym c.opening_fault.ensures.value ∙ c.in_default.is in
     let settles = c.settled-terms.ensures R (sym c.crew.ensures) in
-    (none, refl, settles, record { opened = opened R o none c.settled-terms.result settles; shown = c.records-records.ensures R })
+    (none, refl, settles, record { opened = opened R o none c.settled-terms.result settles; shown = first_records R c.settled-terms.result })
