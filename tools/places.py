@@ -43,11 +43,15 @@ def functions(text):
     """Each function with a body: name, place, head (up to the clauses), clauses, body."""
     for m in re.finditer(r"(?m)^( *)(?:pub(?:\(crate\))? )?(?:const )?fn (\w+)", text):
         indent = m.group(1)
-        end = re.compile(r"(?m)^" + indent + r"(\{\}?|.*[^;]\{)$").search(text, m.end())
-        stop = re.compile(r"(?m);$").search(text, m.end())
-        if not end or (stop and stop.start() < end.start() and "\n" + indent + "{" not in text[m.end():end.end()]):
-            continue
-        opening = text.rindex("{", m.start(), end.end())
+        own = text[m.start():text.index("\n", m.start())]
+        if own.endswith("{") or own.endswith("{}"):
+            opening = text.rindex("{", m.start(), m.start() + len(own))
+        else:
+            end = re.compile(r"(?m)^" + indent + r"(\{\}?|\).*\{)$").search(text, m.end())
+            stop = re.compile(r"(?m);$").search(text, m.end())
+            if not end or (stop and stop.start() < end.start()):
+                continue
+            opening = text.rindex("{", m.start(), end.end())
         if text[opening:opening + 2] == "{}":
             body = "{}"
         else:
@@ -134,13 +138,13 @@ def main():
                 add(kinds[2], file, line, name)
             for p in re.findall(r"\b(kind|kinds|grade): (u\d+)", flat):
                 add(kinds[3], file, line, f"{name}({p[0]}: {p[1]})")
-            if name == "refusal" or one_match(body) and not name == "fmt" and body.count("=>") > 1:
+            if name == "refusal" or one_match(body) and name not in ("fmt", "from", "try_from") and body.count("=>") > 1:
                 add(kinds[10], file, line, name)
             if re.search(r"if (\w+) < (\w+) \{ \1 \} else \{ \2 \}|=> \w+ == \w+,|\[i\] = \*|b'0' \+|let mut (\w+) = self\.\3;|as u8\b.*\n\s+\} else|Some\(Decision \{ value, grade \}\)", body):
                 add(kinds[11], file, line, name)
             if re.search(r"buf: &mut \[u8\], at: usize|&mut \[u8; SLIP_MAX\]", flat):
                 add(kinds[15], file, line, name)
-            if len(re.findall(r"(?:'\w'|\d) => \w+\(", body)) > 1:
+            if name != "try_from" and len(re.findall(r"(?:'\w'|\d) => \w+\(", body)) > 1:
                 add(kinds[16], file, line, name)
             s = shape(body)
             if len(s.split()) >= 14:
