@@ -14,6 +14,17 @@ pub struct Voting<'a, R: FailureRule> {
     ghost few: { characters ≤ max_characters },
 }
 
+// Nothing is owned.
+impl<R: FailureRule> Drop for Voting<'_, R> {
+    fn drop(self) {
+        let Voting {
+            rule: _,
+            characters: _,
+            depth: _,
+        } = self;
+    }
+}
+
 impl<'a, R: FailureRule> Voting<'a, R> {
     // The lowest value, 0 too, that passes.
     pub fn lowest<F: Fn(u8) -> bool>(&self, passes: F) -> Option<u8>
