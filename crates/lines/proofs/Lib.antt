@@ -1,5 +1,4 @@
 pub mod Room
-pub mod Forging
 pub mod MarkedCases
 pub mod Spelling
 pub mod Writing

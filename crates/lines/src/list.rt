@@ -12,6 +12,7 @@ const MAX_NUMBERS: usize = 60;
 pub type Numbers = Fixed<u16, MAX_NUMBERS>;
 
 // The numbers that the bytes write, if they write such. Each number but the last takes two bytes at least.
+// It stands beside `numbers` of `numerals`, which fills a Vec: nothing is allocated below the programs.
 pub(crate) fn read_numbers(bytes: &[u8]) -> Option<Numbers>
     requires { length bytes.now < 120 }
     ensures { MatchOption result (numbers_in bytes.now ≡ None) (λ v. numbers_in bytes.now ≡ Some (items_of v)) }

@@ -12,8 +12,8 @@ pub enum By {
     Sets(u16),
 }
 
-// The numbers are the listed sets, and then the character that each board starts from. Characters go from 1 to `characters`; `listed`
-// is the set of boards listed bad.
+// The numbers are the listed sets, and then the character that each board starts from: one list, as only together are they as few as a
+// line can hold. Characters go from 1 to `characters`; `listed` is the set of boards listed bad.
 #[derive(Clone, Copy)]
 pub struct Plan {
     pub method: Method,
