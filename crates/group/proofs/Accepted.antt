@@ -3,7 +3,6 @@ use Rattle.std.proofs.Common.{◌≡◌, ℕ, zero, suc, ◌<◌, ◌≤◌, Boo
 use Rattle.std.proofs.lemmas.List.FromFn.{length-map-range_with_len}
 use Rattle.std.proofs.lemmas.Bool.{and_parts, and_from, eq-eqb, cond-true, cond-false, ltb-false, le-leb, lt-ltb, le-ltb, not-true, cases_lt}
 use Rattle.quorum.specs.Rules.{Rule}
-use Rattle.quorum.specs.Sets.{all_pass}
 use Rattle.vote.specs.declared.Method.{Method}
 use Rattle.vote.specs.declared.Method.TheVariants.{Plain, Echo}
 use Rattle.vote.proofs.Options.{holds_none}
@@ -13,7 +12,9 @@ use Rattle.heard.specs.Shown.{table}
 use Rattle.heard.proofs.Read.{table_at}
 use Rattle.wire.specs.Fields.{is_within}
 use Rattle.wire.proofs.FrameText.{within_parts, within_from}
-use Rattle.board.specs.Fitting.{echo_under_two}
+use Rattle.std.proofs.lemmas.Grind.{common_steps}
+use Rattle.std.specs.List.{list_all}
+use Rattle.board.specs.Fitting.{echo_under_two, vote_fault, address_fault}
 use Rattle.group.specs.declared.fault.GroupFault.{GroupFault}
 use Rattle.group.specs.declared.opening.Opening.{Opening}
 use Rattle.group.specs.declared.terms.Terms.{Terms}
@@ -24,9 +25,9 @@ use Rattle.group.specs.Sound.{all_characters, sound_terms}
 use Rattle.group.proofs.Numbers.{character_at}
 
 -- ---- tests of a list, place by place
-all_pass_from : (p : ℕ → Bool) (xs : List ℕ) → ((i : ℕ) → i < length xs → p (get_or xs i 0) ≡ true) → all_pass p xs ≡ true
-all_pass_from p [] f = refl
-all_pass_from p (x ∷ xs) f = and_from _ _ (f 0 (omega arith)) (all_pass_from p xs (λ i l. f (suc i) (omega (arith, l))))
+list_all_from : (p : ℕ → Bool) (xs : List ℕ) → ((i : ℕ) → i < length xs → p (get_or xs i 0) ≡ true) → list_all p xs ≡ true
+list_all_from p [] f = refl
+list_all_from p (x ∷ xs) f = and_from _ _ (f 0 (omega arith)) (list_all_from p xs (λ i l. f (suc i) (omega (arith, l))))
 
 taken_at : (n i : ℕ) (xs : List ℕ) → i < n → n ≤ length xs → (get_or (take n xs) i 0 ≡ get_or xs i 0) × (i < length (take n xs))
 taken_at zero i xs l m = absurd (omega (arith, l))
@@ -56,8 +57,12 @@ module _ (n : ℕ) (o : Opening) (good : GoodOpening n o) where
       (and_from _ _ (within_from 1 65535 o.group good.group_low good.group_high)
       (and_from _ _ (within_from 1 65535 o.change good.change_low good.change_high)
       (and_from _ _ (eq-eqb _ _ len)
-      (all_pass_from (is_within 1 o.characters) ss (λ i l.
+      (list_all_from (is_within 1 o.characters) ss (λ i l.
       ap (λ (xs : List ℕ). is_within 1 o.characters (get_or xs i 0)) is ∙ ap (is_within 1 o.characters) (table_at 16 (kept_start n o.starts) i 0 (omega (arith, l, len))) ∙ kept_fits i)))))
+
+  -- as they are kept
+  pub terms_kept : (k g c : ℕ) (ss : List ℕ) → k ≡ o.characters → g ≡ o.group → c ≡ o.change → ss ≡ table 16 (kept_start n o.starts) → sound_terms k g c ss ≡ true
+  terms_kept k g c ss p q r is = rw (p, q, r) (terms_sound ss is)
 
   pub starts_settled : (ss : List ℕ) → ss ≡ table 16 (kept_start n o.starts) → (i : ℕ) → i < n → get_or ss i 0 ≡ get_or o.starts i 0
   starts_settled ss is i l =
@@ -71,6 +76,12 @@ none_failed false x f e = holds_none (sym e)
 cover_needed : (m : Method) (c : ℕ) → 2 ≤ c → not (echo_under_two m c) ≡ true → needed_cover m ≤ c
 cover_needed Plain c l p = l
 cover_needed Echo c l p = ltb-false c 3 (not-true _ p)
+
+-- the tests, one after the other
+pub passed : (R : Rule) (o : Opening) → vote_fault R o.method o.depth o.characters ≡ None → address_fault o.group o.change ≡ None
+    → all_characters o.characters (take R.crew o.starts) ≡ true → R.fails o.listed ≡ true → opening_fault R o ≡ None
+unfolding opening_fault
+passed R o v a s f = grind (arith, common_steps)
 
 module _ (R : Rule) (o : Opening) (none : opening_fault R o ≡ None) where
   pub record Accepted : Type 0 where

@@ -11,7 +11,6 @@ pub mod Standing
 pub mod Posted
 pub mod Bringing
 pub mod Played
-pub mod Asked
 pub mod Accepted
 pub mod Promised
 pub mod Decided

@@ -1,5 +1,5 @@
 -- The calls of a group: what each answers, and the run and the records that a list of calls leads to. Assumes nothing.
-use Rattle.std.specs.Prelude.{ℕ, Bool, cond, not, ◌&&◌, ◌||◌, List, [], ◌∷◌, length, Some, None, Ok, Err, Option, Result, nat_lt}
+use Rattle.std.specs.Prelude.{ℕ, cond, not, ◌&&◌, ◌||◌, List, [], ◌∷◌, length, Some, None, Ok, Err, Option, Result, nat_lt}
 use Rattle.quorum.specs.Rules.{Rule}
 use Rattle.vote.specs.declared.Vote.{Vote}
 use Rattle.vote.specs.Search.{given}
@@ -15,6 +15,7 @@ use Rattle.board.specs.declared.answer.Taken.TheVariants.{Counted, Again}
 use Rattle.board.specs.declared.fault.BoardFault.{BoardFault}
 use Rattle.board.specs.declared.fit.Fit.{Fit}
 use Rattle.board.specs.declared.record.Record.{Record}
+pub use Rattle.board.specs.Fitting.{first_failed}
 use Rattle.board.specs.Shown.{record_of, answer_of, repeats, with_vote}
 use Rattle.board.specs.Started.{told_of, slip_of, first_posted}
 use Rattle.board.specs.Taking.{word_taken, vote_of}
@@ -32,11 +33,6 @@ pub data Call : Type 0 where
   starting : ℕ → Call
   carrying : ℕ → ℕ → ℕ → ℕ → Call
   forging : ℕ → ℕ → List ℕ → Call
-
--- the fault of the first test that fails
-abbrev pub first_failed : {A : Type 0} → List (Bool × A) → Option A
-first_failed [] = None
-first_failed (t ∷ ts) = cond t.0 (first_failed ts) (Some t.1)
 
 abbrev pub done_of : Taken → Done
 done_of Counted = HasCounted

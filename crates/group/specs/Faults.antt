@@ -1,7 +1,7 @@
 -- What each fault of a group tells: its number, and of a board's fault its place and the board. Assumes nothing.
 use Rattle.refusal.specs.declared.Refusal.{Refusal}
 use Rattle.board.specs.Faults as board
-use Rattle.board.specs.Faults.{told, passed_on}
+use Rattle.refusal.specs.Told.{told, passed_on}
 use Rattle.group.specs.declared.fault.GroupFault.{GroupFault}
 use Rattle.group.specs.declared.fault.GroupFault.TheVariants.{Opening, NoGroup, Outside, Listed, Begun, Idle, Unlisted, Unposted, Family, Board}
 

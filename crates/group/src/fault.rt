@@ -2,13 +2,13 @@
 ghost use Rattle.std.specs.Prelude.{◌≡◌};
 ghost use Rattle.group.specs.Faults.{refusal_of};
 ghost use Rattle.board.specs.declared.fault.BoardFault.TheVariants.{Frame};
-ghost use Rattle.group.specs.declared.fault.GroupFault.TheVariants.{Board};
+ghost use Rattle.group.specs.declared.fault.GroupFault.TheVariants.{Board, Opening};
 
 use board::BoardFault;
 use refusal::Refusal;
 use wire::FrameFault;
 
-#[derive(Clone, Copy, PartialEq, Debug)]
+#[derive(Clone, Copy, PartialEq, Eq, Debug)]
 pub enum GroupFault {
     // what stands against the settings of an opening
     Opening(BoardFault),
@@ -32,19 +32,14 @@ pub enum GroupFault {
     Board(u8, BoardFault),
 }
 
-impl GroupFault {
-    // What is told of the fault.
-    pub fn refusal(&self) -> Refusal
-        ensures { result ≡ refusal_of self.now }
-    {
-        let number = match *self {
-            GroupFault::Opening(fault) => return fault.refusal(),
-            GroupFault::Board(board, fault) => {
-                return Refusal {
-                    board: Some(board),
-                    ..fault.refusal()
-                };
-            }
+// What is told of the fault.
+impl From<GroupFault> for Refusal {
+    ghost from_gives = { λ e r. r ≡ refusal_of e };
+
+    fn from(fault: GroupFault) -> Refusal {
+        let number = match fault {
+            GroupFault::Opening(fault) => return Refusal::from(fault),
+            GroupFault::Board(board, fault) => return Refusal::from(fault).passed_on(board),
             GroupFault::NoGroup => 21,
             GroupFault::Outside => 22,
             GroupFault::Listed => 23,
@@ -54,11 +49,16 @@ impl GroupFault {
             GroupFault::Unposted => 27,
             GroupFault::Family => 28,
         };
-        Refusal {
-            number,
-            place: None,
-            board: None,
-        }
+        Refusal::numbered(number)
+    }
+}
+
+// What a board could not be fitted with, no group is opened with.
+impl From<BoardFault> for GroupFault {
+    ghost from_gives = { λ e r. r ≡ Opening e };
+
+    fn from(e: BoardFault) -> GroupFault {
+        GroupFault::Opening(e)
     }
 }
 

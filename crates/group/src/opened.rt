@@ -1,59 +1,69 @@
-// A group is opened: its terms are settled, and each board is fitted with nothing counted.
-ghost use Rattle.std.specs.Prelude.{◌≡◌, ◌≤◌, [], if◌then◌else◌, Some, None, MatchResult, nat_le};
-ghost use Rattle.quorum.specs.Rules.{Rule};
+// A group is opened: its terms are settled, and no board has started.
+ghost use Rattle.std.specs.Prelude.{◌≡◌, [], if◌then◌else◌, nat_le, Some, None, MatchResult};
 ghost use Rattle.heard.specs.Shown.{table};
-ghost use Rattle.group.specs.Opening.{opening_fault, Settles, kept_start, GoodOpening};
+ghost use Rattle.group.specs.Opening.{opening_fault, Settles, kept_start};
 ghost use Rattle.group.specs.Promises.{Reached};
+ghost use Rattle.group.specs.Sound.{all_characters};
 
 use crate::fault::GroupFault;
 use crate::group::Group;
-use crate::opening::{Opening, opening_fault};
+use crate::opening::Opening;
 use crate::records::Records;
 use crate::terms::Terms;
+use board::{BoardFault, kept_address, kept_vote};
 use quorum::FailureRule;
-use vote::Depth;
+
+// Whether each is a character from 1 to the last.
+fn all_characters(last: u32, starts: &[u16]) -> bool
+    ensures { result ≡ all_characters last starts.now }
+{
+    starts
+        .iter()
+        .all(|start| (1..=last).contains(&u32::from(*start)))
+}
 
 // A starting character in the size that a board keeps it; 1 stands in for a board beyond the crew.
 fn own_start(inside: bool, start: u16) -> u8
     ensures { result ≡ (if inside then (if nat_le start 255 then start else 255) else 1) }
 {
-    if !inside {
-        return 1;
-    }
-    if start > 255 {
-        return 255;
-    }
-    start as u8
+    if inside { start.min(255) as u8 } else { 1 }
 }
 
 fn own_starts(starts: &[u16; 16], crew: u8) -> [u8; 16]
     ensures { result ≡ table 16 (kept_start crew starts.now) }
 {
     let mut own = [1; 16];
+    // tried with `array::from_fn`: the proof that each place has what the closure gives did not close
     for i in 0..16 {
         own[i] = own_start(i < crew as usize, starts[i]);
     }
     own
 }
 
-// What is settled, in the sizes that a group keeps it.
-fn settled(opening: &Opening, crew: u8) -> Terms
-    requires { GoodOpening crew opening.now }
-    ensures { (R : Rule) → R.crew ≡ crew → Settles R opening.now result }
-{
-    let depth = if opening.depth == 1 {
-        Depth::One
-    } else {
-        Depth::Two
-    };
-    Terms {
-        method: opening.method,
-        depth,
-        characters: opening.characters as u8,
-        group: opening.group as u16,
-        change: opening.change as u16,
-        listed: opening.listed,
-        starts: own_starts(&opening.starts, crew),
+impl Opening {
+    // What is settled under the rule, in the sizes that a group keeps it, or what stands against it, by rising number.
+    #[tactic(auto, unfolding(crate::specs::Opening::opening_fault))]
+    pub(crate) fn terms<R: FailureRule>(&self, rule: &R) -> Result<Terms, GroupFault>
+        ensures { MatchResult result (λ t. (opening_fault (R.meaning rule.now) self.now ≡ None) × Settles (R.meaning rule.now) self.now t) (λ e. opening_fault (R.meaning rule.now) self.now ≡ Some e) }
+    {
+        let (depth, characters) = kept_vote(rule, self.method, self.depth, self.characters)?;
+        let (group, change) = kept_address(self.group, self.change)?;
+        let crew = rule.crew();
+        if !all_characters(self.characters, &self.starts[..crew as usize]) {
+            return Err(GroupFault::Opening(BoardFault::Start));
+        }
+        if !rule.may_fail(self.listed) {
+            return Err(GroupFault::Family);
+        }
+        Ok(Terms {
+            method: self.method,
+            depth,
+            characters,
+            group,
+            change,
+            listed: self.listed,
+            starts: own_starts(&self.starts, crew),
+        })
     }
 }
 
@@ -62,15 +72,11 @@ impl<R: FailureRule + Drop> Group<R> {
     pub fn open(rule: R, opening: &Opening) -> Result<Group<R>, GroupFault>
         ensures { MatchResult result (λ g. (opening_fault (R.meaning rule) opening.now ≡ None) × (g.rule ≡ rule) × Settles (R.meaning rule) opening.now g.terms × Reached (R.meaning rule) g.terms g.records []) (λ e. opening_fault (R.meaning rule) opening.now ≡ Some e) }
     {
-        if let Some(fault) = opening_fault(&rule, opening) {
-            return Err(fault);
-        }
-        let terms = settled(opening, rule.crew());
-        let records = Records { boards: [None; 16] };
+        let terms = opening.terms(&rule)?;
         Ok(Group {
             rule,
             terms,
-            records,
+            records: Records { boards: [None; 16] },
         })
     }
 }

@@ -1,22 +1,12 @@
 // What the terms of a group settle for each board.
 ghost use Rattle.std.specs.Prelude.{◌≡◌, ◌<◌, ◌≤◌, MatchOption};
 ghost use Rattle.quorum.specs.Rules.{Rule};
-ghost use Rattle.quorum.specs.Sets.{member};
 ghost use Rattle.group.specs.Terms.{fit_at, lies as lies_in};
 
 use crate::terms::Terms;
 use board::{Fit, Fitting};
+use quorum::has;
 use vote::Method;
-
-// Whether the board is in the set.
-fn has(set: u16, board: u16) -> bool
-    ensures { result ≡ member board set }
-{
-    if board >= 16 {
-        return false;
-    }
-    (set >> board) % 2 == 1
-}
 
 impl Terms {
     // The settings of a board, if it is one of the sixteen that there can be.
@@ -40,9 +30,10 @@ impl Terms {
     pub(crate) fn lies(&self, board: u16) -> bool
         ensures { (R : Rule) → result ≡ lies_in R self.now board }
     {
+        let listed = self.listed;
         match self.method {
             Method::Plain => false,
-            Method::Echo => has(self.listed, board),
+            Method::Echo => board < 16 && has(listed, board as u8),
         }
     }
 }

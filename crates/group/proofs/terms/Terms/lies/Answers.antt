@@ -1,9 +1,11 @@
-use Rattle.std.proofs.Common.{◌∙◌}
-use Rattle.group.proofs.Fits.{none_lies, listed_lies}
+use Rattle.std.proofs.Common.{◌∙◌, sym, arith}
+use Rattle.std.proofs.lemmas.Bool.{le-ltb}
+use Rattle.quorum.specs.Members.{member_lt}
+use Rattle.quorum.specs.Truth.{false_unless}
+use Rattle.group.proofs.Fits.{listed_lies}
 use Rattle.group.proofs.terms.Terms.lies.Goals as goal
 
-pub returns-in-Plain : goal.returns-in-Plain
-returns-in-Plain c R = none_lies R c.args.self.now c.args.board c.in-Plain.is
-
-pub returns-in-Echo : goal.returns-in-Echo
-returns-in-Echo c R = c.has.ensures ∙ listed_lies R c.args.self.now c.args.board c.in-Echo.is
+pub returns-else-board-lt16 : goal.returns-else-board-lt16
+returns-else-board-lt16 c R =
+    le-ltb _ _ (omega arith)
+    ∙ sym (false_unless _ (λ m. let l = member_lt 16 c.args.self.now.listed c.args.board (omega arith) m in omega (arith, l))) ∙ listed_lies R c.args.self.now c.args.board c.in-Echo.is
