@@ -49,15 +49,6 @@ field_at p rest v e =
     ∙ ap₂ (λ q r. and_then (number_in q) (λ w. Some (w, r))) (take-append_seam p (comma ∷ rest)) behind
     ∙ ap (λ (o : Option ℕ). and_then o (λ w. Some (w, rest))) e
 
-module _ (bs : List ℕ) where
-  pub no_comma : position (λ b. eqb b comma) bs ≡ None → None ≡ field_in bs
-  no_comma e = ap (λ (o : Option ℕ). and_then o (λ i. and_then (number_in (take i bs)) (λ v. Some (v, drop (i + 1) bs)))) (sym e)
-
-  pub field_found : (i : ℕ) → position (λ b. eqb b comma) bs ≡ Some i → (o : Option ℕ) → number_in (take i bs) ≡ o → and_then o (λ v. Some (v, drop (i + 1) bs)) ≡ field_in bs
-  field_found i e o f =
-      ap (λ (o : Option ℕ). and_then o (λ v. Some (v, drop (i + 1) bs))) (sym f)
-      ∙ ap (λ (o : Option ℕ). and_then o (λ i. and_then (number_in (take i bs)) (λ v. Some (v, drop (i + 1) bs)))) (sym e)
-
 -- what is made of the numbers is made of the first and those behind its comma
 pub field_first : (bs : List ℕ) (f : ℕ × List ℕ) (call : List ℕ → Call) → Some f ≡ field_in bs → readable (numbers_in f.1) (λ vs. call (f.0 ∷ vs)) ≡ readable (numbers_in bs) call
 field_first bs f call e =

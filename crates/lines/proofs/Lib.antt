@@ -1,4 +1,5 @@
 pub mod Room
+pub mod Forging
 pub mod MarkedCases
 pub mod Spelling
 pub mod Writing

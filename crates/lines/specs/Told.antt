@@ -1,5 +1,5 @@
 -- Which call the code's own record of a line stands for. Assumes nothing.
-use Rattle.std.specs.Prelude.{◌≡◌, ℕ, ◌+◌, cond, List, length, take, drop, Some, None, Option, ◌==◌, slice_index}
+use Rattle.std.specs.Prelude.{◌≡◌, ℕ, ◌+◌, ◌≤◌, cond, List, length, take, drop, Some, None, Option, ◌==◌, slice_index}
 use Rattle.vote.specs.declared.Method.{Method}
 use Rattle.lines.specs.declared.head.Head.{Head}
 use Rattle.lines.specs.declared.line.Line.{Line}
@@ -47,17 +47,18 @@ abbrev pub head_call : (Method → List ℕ → Call) → Option Head → Call
 head_call call None = unreadable
 head_call call (Some h) = call h.method (items_of h.numbers)
 
-abbrev pub call_of : Option Line → Call
-call_of None = unreadable
-call_of (Some (Open p)) = opens (opening_of p)
-call_of (Some (Start i)) = starts_board i
-call_of (Some (Carry to from kind value)) = carries to from kind value
-call_of (Some (Forge to from bytes)) = forges to from bytes.now
+-- what is forged is told by the place in the line at which it begins
+abbrev pub call_of : List ℕ → Option Line → Call
+call_of line None = unreadable
+call_of line (Some (Open p)) = opens (opening_of p)
+call_of line (Some (Start i)) = starts_board i
+call_of line (Some (Carry to from kind value)) = carries to from kind value
+call_of line (Some (Forge to from place)) = forges to from (drop place line)
 
--- a plan has as many sets as it says and one starting character for each board
-abbrev pub Within : Option Line → Type 0
-Within None = Unit {0}
-Within (Some (Open p)) = (length (sets_of p) ≡ sets_many p.by) × (length (starts_of p) ≡ p.crew)
-Within (Some (Start i)) = Unit {0}
-Within (Some (Carry to from kind value)) = Unit {0}
-Within (Some (Forge to from bytes)) = Unit {0}
+-- a plan has as many sets as it says and one starting character for each board, and a place is within the line
+abbrev pub Within : List ℕ → Option Line → Type 0
+Within line None = Unit {0}
+Within line (Some (Open p)) = (length (sets_of p) ≡ sets_many p.by) × (length (starts_of p) ≡ p.crew)
+Within line (Some (Start i)) = Unit {0}
+Within line (Some (Carry to from kind value)) = Unit {0}
+Within line (Some (Forge to from place)) = place ≤ length line

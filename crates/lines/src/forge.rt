@@ -1,5 +1,5 @@
 // A line that has bytes forged: to, from, and the bytes.
-ghost use Rattle.std.specs.Prelude.{◌≡◌};
+ghost use Rattle.std.specs.Prelude.{◌≡◌, ◌≤◌, length, drop};
 ghost use Rattle.lines.specs.Lines.{forged_in};
 ghost use Rattle.lines.specs.Told.{call_of, Within};
 
@@ -7,11 +7,12 @@ use crate::field::read_field;
 use crate::line::Line;
 
 // What follows the letter and its comma says it.
-pub(crate) fn forge(bytes: &[u8]) -> Option<Line<'_>>
-    ensures call { call_of result ≡ forged_in bytes.now }
-    ensures within { Within result }
+pub(crate) fn forge(line: &[u8]) -> Option<Line>
+    requires { 2 ≤ length line.now }
+    ensures call { call_of line.now result ≡ forged_in (drop 2 line.now) }
+    ensures within { Within line.now result }
 {
-    let (to, rest) = read_field(bytes)?;
+    let (to, rest) = read_field(&line[2..])?;
     let (from, forged) = read_field(rest)?;
-    Some(Line::Forge(to, from, forged))
+    Some(Line::Forge(to, from, line.len() - forged.len()))
 }

@@ -2,12 +2,12 @@
 use crate::plan::Plan;
 
 #[derive(Clone, Copy)]
-pub enum Line<'a> {
+pub enum Line {
     Open(Plan),
     // The board.
     Start(u16),
     // To, from, kind, value.
     Carry(u16, u16, u16, u16),
-    // To, from, and the forged bytes, which go on to the end of the line.
-    Forge(u16, u16, &'a [u8]),
+    // To, from, and the place in the line at which the forged bytes begin; they go on to its end.
+    Forge(u16, u16, usize),
 }

@@ -18,9 +18,9 @@ const MAX_LINE: usize = 121;
 
 // By its letter, the call that the bytes write, if a comma follows the letter and a line feed is the last of them.
 #[tactic(auto, unfolding(crate::specs::Lines::call_in))]
-fn read(line: &[u8]) -> Option<Line<'_>>
-    ensures call { call_of result ≡ call_in line.now }
-    ensures within { Within result }
+fn read(line: &[u8]) -> Option<Line>
+    ensures call { call_of line.now result ≡ call_in line.now }
+    ensures within { Within line.now result }
 {
     let [letter, b',', body @ .., b'\n'] = line else {
         return None;
@@ -33,16 +33,16 @@ fn read(line: &[u8]) -> Option<Line<'_>>
         b'g' => open(&read_head(body)?, By::Sets),
         b's' => start(body),
         b'c' => carry(body),
-        b'f' => forge(&line[2..]),
+        b'f' => forge(line),
         _ => None,
     }
 }
 
 // The call that the bytes write, if they write one; its line feed is the last byte of a line.
-pub fn read_line(line: &[u8]) -> Option<Line<'_>>
-    ensures call { call_of result ≡ call_in line.now }
-    ensures within { Within result }
-    ensures a_readable_line_is_the_one_its_call_has { Writes line.now (call_of result) }
+pub fn read_line(line: &[u8]) -> Option<Line>
+    ensures call { call_of line.now result ≡ call_in line.now }
+    ensures within { Within line.now result }
+    ensures a_readable_line_is_the_one_its_call_has { Writes line.now (call_of line.now result) }
     ensures each_call_is_readable { EachCallIsReadable }
     ensures the_marked_cases_hold { MarkedCasesHold }
 {

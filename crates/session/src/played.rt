@@ -29,9 +29,9 @@ pub(crate) fn play(group: &mut Option<Group<EitherRule>>, line: &[u8]) -> Reply
             letter: Letter::Carry,
             answer: on(group, to, |g| g.carry(to, from, kind, value)),
         },
-        Some(Line::Forge(to, from, bytes)) => Reply {
+        Some(Line::Forge(to, from, place)) => Reply {
             letter: Letter::Forge,
-            answer: on(group, to, |g| g.forge(to, from, bytes)),
+            answer: on(group, to, |g| g.forge(to, from, &line[place..])),
         },
     }
 }

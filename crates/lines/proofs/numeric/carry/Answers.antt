@@ -7,12 +7,12 @@ use Rattle.lines.proofs.Fields.{one_read, field_first, none_single, none_led, no
 use Rattle.lines.proofs.numeric.carry.Goals as goal
 
 pub returns-in_err-to-clause-call : goal.returns-in_err-to-clause-call
-returns-in_err-to-clause-call c =
+returns-in_err-to-clause-call c = λ line.
     let none : None ≡ field_in c.args.body.now = search rules in
     let h = none_led carry_with (λ vs few. not_four vs (λ e. omega arith)) c.args.body.now none in search rules
 
 pub returns-in_err-from-clause-call : goal.returns-in_err-from-clause-call
-returns-in_err-from-clause-call c =
+returns-in_err-from-clause-call c = λ line.
     let to = c.in_ok-to.to in
     let first : Some (to, c.in_ok-to.rest.now) ≡ field_in c.args.body.now = search rules in
     let none : None ≡ field_in c.in_ok-to.rest.now = search rules in
@@ -20,7 +20,7 @@ returns-in_err-from-clause-call c =
     ∙ field_first c.args.body.now (to, c.in_ok-to.rest.now) carry_with first in search rules
 
 pub returns-in_err-kind-clause-call : goal.returns-in_err-kind-clause-call
-returns-in_err-kind-clause-call c =
+returns-in_err-kind-clause-call c = λ line.
     let to = c.in_ok-to.to in
     let from = c.in_ok-from.from in
     let first : Some (to, c.in_ok-to.rest.now) ≡ field_in c.args.body.now = search rules in
@@ -31,7 +31,7 @@ returns-in_err-kind-clause-call c =
     ∙ field_first c.args.body.now (to, c.in_ok-to.rest.now) carry_with first in search rules
 
 pub returns-in_err-number-clause-call : goal.returns-in_err-number-clause-call
-returns-in_err-number-clause-call c =
+returns-in_err-number-clause-call c = λ line.
     let to = c.in_ok-to.to in
     let from = c.in_ok-from.from in
     let kind = c.in_ok-kind.kind in
@@ -45,7 +45,7 @@ returns-in_err-number-clause-call c =
     ∙ field_first c.args.body.now (to, c.in_ok-to.rest.now) carry_with first in search rules
 
 pub returns-clause-call : goal.returns-clause-call
-returns-clause-call c =
+returns-clause-call c = λ line.
     let to = c.in_ok-to.to in
     let from = c.in_ok-from.from in
     let kind = c.in_ok-kind.kind in

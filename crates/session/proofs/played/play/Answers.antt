@@ -1,4 +1,5 @@
-use Rattle.std.proofs.Common.{rules, refl}
+use Rattle.std.proofs.Common.{rules, drop, refl}
+use Rattle.std.proofs.lemmas.List.{take_rest}
 use Rattle.lines.specs.Calls.{unreadable, opens, starts_board, carries, forges}
 use Rattle.fixed.specs.Items.{items_of}
 use Rattle.lines.specs.Told.{opening_of}
@@ -23,6 +24,7 @@ returns-in-Some-Carry c =
 
 pub returns-in-Some-Forge : goal.returns-in-Some-Forge
 returns-in-Some-Forge c =
-    let bytes = c.in-Some-Forge.bytes.now in
-    line_plays _ _ c.args.line.now (forges c.in-Some-Forge.to c.in-Some-Forge.from bytes) _ _ (search rules) refl
-    (c.on-in-Some-Forge.ensures (forging c.in-Some-Forge.to c.in-Some-Forge.from bytes) (λ g h r e. search rules))
+    let line = c.args.line.now in
+    let place = c.in-Some-Forge.place in
+    line_plays _ _ line (forges c.in-Some-Forge.to c.in-Some-Forge.from (drop place line)) _ _ (search rules) refl
+    (c.on-in-Some-Forge.ensures (forging c.in-Some-Forge.to c.in-Some-Forge.from (drop place line)) (λ g h r e. search (rules, take_rest)))
