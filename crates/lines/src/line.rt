@@ -9,5 +9,6 @@ pub enum Line {
     // To, from, kind, value.
     Carry(u16, u16, u16, u16),
     // To, from, and the place in the line at which the forged bytes begin; they go on to its end.
+    // A place and no slice: what a line asks for can be kept when the line's bytes are gone.
     Forge(u16, u16, usize),
 }
