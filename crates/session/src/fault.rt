@@ -23,13 +23,9 @@ impl From<SessionFault> for Refusal {
 
     fn from(e: SessionFault) -> Refusal {
         match e {
-            SessionFault::Unreadable => Refusal {
-                number: 29,
-                place: None,
-                board: None,
-            },
-            SessionFault::Rule(fault) => fault.refusal(),
-            SessionFault::Group(fault) => fault.refusal(),
+            SessionFault::Unreadable => Refusal::numbered(29),
+            SessionFault::Rule(fault) => Refusal::from(fault),
+            SessionFault::Group(fault) => Refusal::from(fault),
         }
     }
 }
