@@ -1,4 +1,4 @@
--- The numbers of the parts are those that a reading byte by byte gives, and the parts are what single commas cut off. Assumes nothing.
+-- The numbers that the parts write are those that a reading byte by byte gives. Assumes nothing.
 use Rattle.std.proofs.Common.{◌≡◌, ℕ, ◌<◌, Bool, true, false, cond, eqb, List, [], ◌∷◌, ◌++◌, length, Some, None, Option, sym, refl, ap, ◌∙◌, append_assoc, arith}
 use Rattle.std.specs.List.{onto_first}
 use Rattle.std.proofs.lemmas.List.Splits.{length-slice_split}
