@@ -13,8 +13,9 @@ use Rattle.board.specs.Faults.{refusal_of}
 use Rattle.board.specs.Started.{Accepts}
 use Rattle.board.specs.Taking.{word_taken}
 use Rattle.board_bench.specs.declared.answer.Answer.{Answer}
+use Rattle.board_bench.specs.declared.answer.Answer.TheVariants.{Refused}
 use Rattle.board_bench.specs.declared.said.Said.{Said}
-use Rattle.board_bench.specs.Answers.{refused, taken}
+use Rattle.board_bench.specs.Answers.{taken}
 use Rattle.board_bench.specs.Saying.{said_in}
 use Rattle.board_bench.specs.Turns.{ByWord, BySaid, Turned}
 
@@ -26,7 +27,7 @@ module _ (R : Rule) (f : Fit) (o p : Record) (a : Answer) (n : ℕ) (buf line : 
       let S : Option Said → Type 0 = BySaid R f o p a n buf line in
       subst S (sym said) (subst Q part (subst P (sym e) h))
 
-  pub turned_refused : (e : BoardFault) → word_taken R f s.port xs ≡ Err e → a ≡ refused (refusal_of e) → p ≡ o → n ≡ 0 → Turned R f o p a n buf line
+  pub turned_refused : (e : BoardFault) → word_taken R f s.port xs ≡ Err e → a ≡ Refused (refusal_of e) → p ≡ o → n ≡ 0 → Turned R f o p a n buf line
   turned_refused e q told stays none = turned (Err e) q (told, stays, none)
 
   pub turned_taken : (how : Taken) (slip : Posted) → Accepts R f s.port xs o p how slip → a ≡ taken how (length (words_of slip)) → n ≡ length (frames_of slip)

@@ -1,30 +1,25 @@
 -- What is printed of each answer, and of a decision. Assumes nothing.
 use Rattle.std.specs.Prelude.{ℕ, List, ◌++◌, Some, None, codes, decimal, Option}
-use Rattle.refusal.specs.declared.Refusal.{Refusal}
 use Rattle.board.specs.declared.answer.Taken.{Taken}
 use Rattle.board.specs.declared.answer.Taken.TheVariants.{Counted as WasCounted, Again as WasAgain}
 use Rattle.board.specs.declared.lamp.Order.{Order}
 use Rattle.board.specs.declared.lamp.Order.TheVariants.{Show, Load, Stay}
 use Rattle.board_bench.specs.declared.decided.Decided.{Decided}
 use Rattle.board_bench.specs.declared.answer.Answer.{Answer}
-use Rattle.board_bench.specs.declared.answer.Answer.TheVariants.{Unreadable, Refused, RefusedAt, Started, Counted, Again}
-
--- a place is told where the refusal has one
-abbrev pub refused_at : ℕ → Option ℕ → Answer
-refused_at n None = Refused n
-refused_at n (Some p) = RefusedAt n p
-
-abbrev pub refused : Refusal → Answer
-refused r = refused_at r.number r.place
+use Rattle.board_bench.specs.declared.answer.Answer.TheVariants.{Unreadable, Refused, Started, Counted, Again}
 
 abbrev pub taken : Taken → ℕ → Answer
 taken WasCounted n = Counted n
 taken WasAgain n = Again n
 
+-- a place is told where the refusal has one
+abbrev pub refused_line : ℕ → Option ℕ → List ℕ
+refused_line n None = codes "refused " ++ decimal n
+refused_line n (Some p) = codes "refused " ++ (decimal n ++ (codes " at " ++ decimal p))
+
 abbrev pub answer_line : Answer → List ℕ
 answer_line Unreadable = codes "unreadable"
-answer_line (Refused n) = codes "refused " ++ decimal n
-answer_line (RefusedAt n p) = codes "refused " ++ (decimal n ++ (codes " at " ++ decimal p))
+answer_line (Refused r) = refused_line r.number r.place
 answer_line (Started n) = codes "started " ++ decimal n
 answer_line (Counted n) = codes "counted " ++ decimal n
 answer_line (Again n) = codes "again " ++ decimal n

@@ -1,7 +1,7 @@
 -- What the first line asks for, and the lowest number that stands against it. Assumes nothing.
 use Rattle.std.specs.Prelude.{ℕ, cond, ◌&&◌, List, length, drop, Some, None, Option, ◌==◌, nat_lt, slice_index}
 use Rattle.vote.specs.declared.Method.{Method}
-use Rattle.vote.specs.declared.Method.TheVariants.{Plain, Echo}
+use Rattle.vote.specs.Conversions.{method_of}
 use Rattle.quorum.specs.Counting.{count_rule}
 use Rattle.quorum.specs.Faults as rule
 use Rattle.quorum.specs.declared.fault.RuleFault.{RuleFault}
@@ -9,17 +9,7 @@ use Rattle.board.specs.declared.fault.BoardFault.{BoardFault}
 use Rattle.board.specs.Fitting.{settings_fault}
 use Rattle.board.specs.Faults as board
 use Rattle.board_bench.specs.declared.asked.Asked.{Asked}
-use Rattle.board_bench.specs.Lines.{comma, and_then, numbers_in}
-
--- the letters of the two methods
-abbrev pub plain_letter : ℕ
-plain_letter = 112
-
-abbrev pub echo_letter : ℕ
-echo_letter = 101
-
-abbrev pub method_of : ℕ → Option Method
-method_of b = cond (b == plain_letter) (Some Plain) (cond (b == echo_letter) (Some Echo) None)
+use Rattle.numerals.specs.Numerals.{comma, and_then, numbers_in}
 
 -- nine numbers: depth, crew, cover, f, characters, group, change, board, start
 abbrev pub asked_with : List ℕ → Method → Option Asked

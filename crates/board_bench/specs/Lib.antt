@@ -1,4 +1,3 @@
-pub mod Lines
 pub mod Asking
 pub mod Saying
 pub mod Answers

@@ -15,9 +15,9 @@ use Rattle.board.specs.Faults.{refusal_of}
 use Rattle.board.specs.Started.{Accepts}
 use Rattle.board.specs.Taking.{word_taken}
 use Rattle.board_bench.specs.declared.answer.Answer.{Answer}
-use Rattle.board_bench.specs.declared.answer.Answer.TheVariants.{Unreadable}
+use Rattle.board_bench.specs.declared.answer.Answer.TheVariants.{Unreadable, Refused}
 use Rattle.board_bench.specs.declared.said.Said.{Said}
-use Rattle.board_bench.specs.Answers.{refused, taken}
+use Rattle.board_bench.specs.Answers.{taken}
 use Rattle.board_bench.specs.Saying.{said_in}
 
 -- a count rule as it is meant
@@ -36,7 +36,7 @@ module _ (R : Rule) (f : Fit) (o p : Record) (a : Answer) (n : ℕ) (buf : List 
 
   abbrev pub ByWord : ℕ → List ℕ → Result Word BoardFault → Type 0
   ByWord port xs (Ok w) = Posts port xs
-  ByWord port xs (Err e) = Nothing (refused (refusal_of e))
+  ByWord port xs (Err e) = Nothing (Refused (refusal_of e))
 
   abbrev pub BySaid : List ℕ → Option Said → Type 0
   BySaid line None = Nothing Unreadable

@@ -1,5 +1,5 @@
 // The board that is asked for, or the lowest number that stands against it.
-ghost use Rattle.std.specs.Prelude.{◌≡◌, IfOk, if◌then◌else◌, Some, None, MatchResult, nat_lt};
+ghost use Rattle.std.specs.Prelude.{◌≡◌, IfOk, Some, None, MatchResult};
 ghost use Rattle.quorum.specs.Counting.{count_rule};
 ghost use Rattle.quorum.specs.Faults.{count_fault};
 ghost use Rattle.board.specs.Fitted.{Keeps};
@@ -8,12 +8,7 @@ ghost use Rattle.board_bench.specs.Asking.{lowest_of};
 use crate::asked::Asked;
 use board::{Fitted, settings_fault};
 use quorum::{CountRule, MAX_COVER, RuleFault};
-
-fn lower(m: u8, n: u8) -> u8
-    ensures { result ≡ (if nat_lt n m then n else m) }
-{
-    if n < m { n } else { m }
-}
+use refusal::Refusal;
 
 // The lowest number, where this stands against the rule.
 fn lowest(fault: RuleFault, asked: &Asked) -> u8
@@ -25,20 +20,19 @@ fn lowest(fault: RuleFault, asked: &Asked) -> u8
     };
     match settings_fault(&rule, &asked.settings) {
         None => fault.number(),
-        Some(other) => lower(fault.number(), other.refusal().number),
+        Some(other) => fault.number().min(Refusal::from(other).number),
     }
 }
 
-pub fn fitted(asked: &Asked) -> Result<Fitted<CountRule>, u8>
-    ensures value { MatchResult result (λ _. lowest_of asked.now ≡ None) (λ n. lowest_of asked.now ≡ Some n) }
+pub fn fitted(asked: &Asked) -> Result<Fitted<CountRule>, Refusal>
+    ensures value { MatchResult result (λ _. lowest_of asked.now ≡ None) (λ r. (lowest_of asked.now ≡ Some r.number) × (r.place ≡ None)) }
     ensures rule { IfOk result (λ b. count_rule b.rule.crew b.rule.cover b.rule.f ≡ count_rule asked.now.crew asked.now.cover asked.now.f) }
     ensures fit { IfOk result (λ b. Keeps asked.now.settings b.fitting.fit) }
 {
     match CountRule::new(asked.crew, asked.cover, asked.f) {
-        Err(fault) => Err(lowest(fault, asked)),
-        Ok(rule) => match Fitted::fit(rule, asked.settings) {
-            Err(fault) => Err(fault.refusal().number),
-            Ok(board) => Ok(board),
-        },
+        Err(fault) => Err(Refusal::numbered(lowest(fault, asked))),
+        Ok(rule) => Fitted::fit(rule, asked.settings).map_err(|fault| Refusal::numbered(
+            Refusal::from(fault).number,
+        )),
     }
 }

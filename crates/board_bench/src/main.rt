@@ -9,7 +9,6 @@ mod answer;
 mod asked;
 mod decided;
 mod fitting;
-mod number;
 mod place;
 mod posts;
 mod said;
@@ -30,16 +29,9 @@ use wire::SLIP_MAX;
 
 // Prints the frames as they stand in the buffer, each on a line of its own.
 fn print_frames(rt: &HostRuntime, frames: &[u8]) -> io::Result<()> {
-    let mut rest = frames;
-    while !rest.is_empty() {
-        let n = place_of(b'\n', rest);
+    for frame in frames.split_inclusive(|byte| *byte == b'\n') {
         print!(rt; "  ")?;
-        rt.stdout().write_all(&rest[0..n])?;
-        println!(rt)?;
-        if n >= rest.len() {
-            return Ok(());
-        }
-        rest = &rest[n + 1..];
+        rt.stdout().write_all(frame)?;
     }
     Ok(())
 }
@@ -68,14 +60,8 @@ fn play_line(rt: &HostRuntime, board: &mut Started<CountRule>, line: &[u8]) -> i
 }
 
 fn play(rt: &HostRuntime, board: &mut Started<CountRule>, input: &[u8]) -> io::Result<()> {
-    let mut rest = input;
-    while !rest.is_empty() {
-        let n = place_of(b'\n', rest);
-        if n >= rest.len() {
-            return play_line(rt, board, rest);
-        }
-        play_line(rt, board, &rest[0..n + 1])?;
-        rest = &rest[n + 1..];
+    for line in input.split_inclusive(|byte| *byte == b'\n') {
+        play_line(rt, board, line)?;
     }
     Ok(())
 }
@@ -85,7 +71,7 @@ fn open(rt: &HostRuntime, line: &[u8], rest: &[u8]) -> io::Result<()> {
         return tell(rt, Answer::Unreadable, &[]);
     };
     match fitted(&asked) {
-        Err(number) => tell(rt, Answer::Refused(number), &[]),
+        Err(refusal) => tell(rt, Answer::Refused(refusal), &[]),
         Ok(board) => {
             let (mut started, slip) = board.start();
             let answer = Answer::Started(slip.count());
@@ -103,9 +89,8 @@ fn main(rt: HostRuntime) -> io::Result<()> {
     if input.is_empty() {
         return Ok(());
     }
-    let n = place_of(b'\n', &input);
-    if n >= input.len() {
-        return open(&rt, &input, &[]);
+    match place_of(b'\n', &input) {
+        None => open(&rt, &input, &[]),
+        Some(end) => open(&rt, &input[..end], &input[end + 1..]),
     }
-    open(&rt, &input[0..n], &input[n + 1..])
 }

@@ -1,16 +1,10 @@
 // Where a byte first stands.
-ghost use Rattle.std.specs.Prelude.{◌≡◌, ◌≤◌, length};
-ghost use Rattle.board_bench.specs.Lines.{until};
+ghost use Rattle.std.specs.Prelude.{◌≡◌, ◌==◌, ◌<◌, length, position, IfSome};
 
-// How many bytes stand before the first mark, or in all where there is none.
-pub fn place_of(mark: u8, bytes: &[u8]) -> usize
-    ensures value { result ≡ until mark bytes.now }
-    ensures within { result ≤ length bytes.now }
+// How many bytes stand before the first mark, if there is one.
+pub fn place_of(mark: u8, bytes: &[u8]) -> Option<usize>
+    ensures value { result ≡ position (λ b. b == mark) bytes.now }
+    ensures within { IfSome result (λ n. n < length bytes.now) }
 {
-    for (i, byte) in bytes.iter().enumerate() {
-        if *byte == mark {
-            return i;
-        }
-    }
-    bytes.len()
+    bytes.iter().position(|byte| *byte == mark)
 }

@@ -2,7 +2,7 @@
 ghost use Rattle.std.specs.Prelude.{◌≡◌, ◌≤◌};
 ghost use Rattle.board_bench.specs.Turns.{Turned, meant};
 
-use crate::answer::{Answer, refused_for, taken_with};
+use crate::answer::{Answer, taken_with};
 use crate::posts::written;
 use crate::said::read_said;
 use board::Started;
@@ -30,11 +30,10 @@ pub fn turn_with(board: &mut Started<CountRule>, line: &[u8], buf: &mut [u8; SLI
     let begins = said.begins;
     match board.take(said.port, &line[begins..]) {
         Err(fault) => Turn {
-            answer: refused_for(fault.refusal()),
+            answer: Answer::Refused(fault.into()),
             end: 0,
         },
-        Ok(told) => {
-            let (how, slip) = told;
+        Ok((how, slip)) => {
             let answer = taken_with(how, slip.count());
             let end = written(slip, buf);
             Turn { answer, end }

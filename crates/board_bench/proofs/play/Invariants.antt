@@ -1,9 +1,0 @@
--- What is left is a part of the whole, and each line makes it shorter. Assumes nothing.
-use Rattle.std.proofs.Common.{◌≤◌, length}
-use Rattle.board_bench.proofs.play.Given as goal
-
-abbrev pub invariant-loop-rest : goal.invariant-loop-rest
-invariant-loop-rest l = length l.rest ≤ length l.input
-
-abbrev pub decreases-loop-rest : goal.decreases-loop-rest
-decreases-loop-rest l = length l.rest
