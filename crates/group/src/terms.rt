@@ -4,6 +4,7 @@ ghost use Rattle.group.specs.Sound.{sound_terms};
 
 use vote::{Depth, Method};
 
+// What a board's `Fit` has too is spelled out in both: a struct of the shared numbers would be no plainer, as each use would only name one field more.
 #[derive(Clone, Copy)]
 pub struct Terms {
     pub(crate) method: Method,
