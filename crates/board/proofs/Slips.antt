@@ -13,7 +13,7 @@ use Rattle.wire.proofs.Ranging.{ranges_none}
 use Rattle.board.specs.declared.fit.Fit.{Fit}
 use Rattle.board.specs.Sound.{sound_fit}
 use Rattle.board.specs.Started.{posted_of}
-use Rattle.board.proofs.Good.{within_parts}
+use Rattle.wire.proofs.FrameText.{within_parts}
 
 abbrev pub Sound : Fit → Type 0
 Sound f = sound_fit f.characters f.group f.change f.board f.start ≡ true

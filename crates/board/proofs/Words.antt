@@ -11,7 +11,8 @@ use Rattle.board.specs.declared.fault.BoardFault.{BoardFault}
 use Rattle.board.specs.declared.fault.BoardFault.TheVariants.{Frame}
 use Rattle.board.specs.declared.fit.Fit.{Fit}
 use Rattle.board.specs.Taking.{kinds_used, least_value, word_fault, port_fault, passed_up, unless, word_taken}
-use Rattle.board.proofs.Good.{none_failed, within_parts}
+use Rattle.wire.proofs.FrameText.{within_parts}
+use Rattle.board.proofs.Good.{none_failed}
 
 pub record GoodWord (R : Rule) (f : Fit) (w : Word) : Type 0 where
   pub crew_high : R.crew ≤ 16

@@ -1,11 +1,10 @@
 -- What an accepted opening settles: good terms, and records of boards that have counted nothing. Assumes nothing.
-use Rattle.std.proofs.Common.{◌≡◌, ℕ, zero, suc, ◌<◌, ◌≤◌, Bool, true, false, cond, not, ◌&&◌, ltb, leb, List, [], ◌∷◌, length, get_or, take, replicate, Some, None, Option, sym, refl, ap, ◌∙◌, subst, ⊎_elim, arith}
+use Rattle.std.proofs.Common.{◌≡◌, ℕ, zero, suc, ◌<◌, ◌≤◌, Bool, true, not, ◌&&◌, ltb, leb, List, [], ◌∷◌, length, get_or, take, replicate, None, sym, refl, ap, ◌∙◌, subst, ⊎_elim, arith}
 use Rattle.std.proofs.lemmas.List.FromFn.{length-map-range_with_len}
 use Rattle.std.proofs.lemmas.Bool.{and_parts, and_from, eq-eqb, cond-true, cond-false, ltb-false, le-leb, lt-ltb, le-ltb, not-true, cases_lt}
 use Rattle.quorum.specs.Rules.{Rule}
 use Rattle.vote.specs.declared.Method.{Method}
 use Rattle.vote.specs.declared.Method.TheVariants.{Plain, Echo}
-use Rattle.vote.proofs.Options.{holds_none}
 use Rattle.agreement.specs.Methods.{needed_cover}
 use Rattle.agreement.specs.Runs.{start_of}
 use Rattle.heard.specs.Shown.{table}
@@ -14,8 +13,8 @@ use Rattle.wire.specs.Fields.{is_within}
 use Rattle.wire.proofs.FrameText.{within_parts, within_from}
 use Rattle.std.proofs.lemmas.Grind.{common_steps}
 use Rattle.std.specs.List.{list_all}
+use Rattle.board.proofs.Good.{none_failed}
 use Rattle.board.specs.Fitting.{echo_under_two, vote_fault, address_fault}
-use Rattle.group.specs.declared.fault.GroupFault.{GroupFault}
 use Rattle.group.specs.declared.opening.Opening.{Opening}
 use Rattle.group.specs.declared.terms.Terms.{Terms}
 use Rattle.group.specs.Calls.{board_of, records_of, run_of, after}
@@ -69,10 +68,6 @@ module _ (n : ℕ) (o : Opening) (good : GoodOpening n o) where
       ap (λ (xs : List ℕ). get_or xs i 0) is ∙ table_at 16 (kept_start n o.starts) i 0 (omega (arith, l, good.crew_high)) ∙ kept_inside i l
 
 -- ---- what it says that nothing stands against an opening
-none_failed : (b : Bool) (x : Option GroupFault) (f : GroupFault) → cond b x (Some f) ≡ None → (b ≡ true) × (x ≡ None)
-none_failed true x f e = (refl, e)
-none_failed false x f e = holds_none (sym e)
-
 cover_needed : (m : Method) (c : ℕ) → 2 ≤ c → not (echo_under_two m c) ≡ true → needed_cover m ≤ c
 cover_needed Plain c l p = l
 cover_needed Echo c l p = ltb-false c 3 (not-true _ p)

@@ -1,5 +1,5 @@
 -- One board takes a frame: its record, its answer, and that its slip always fits. Assumes nothing.
-use Rattle.std.proofs.Common.{◌≡◌, ℕ, ◌*◌, ◌≤◌, true, false, List, length, Some, Option, Ok, Err, Result, MatchResult, IsErrAnd, subst, sym, ap, ◌∙◌, ap₂}
+use Rattle.std.proofs.Common.{◌≡◌, ℕ, ◌*◌, ◌≤◌, true, false, List, length, Some, Option, Ok, Err, Result, MatchResult, IsErrAnd, subst, sym, ap, ◌∙◌}
 use Rattle.std.proofs.lemmas.Bool.{false≢true}
 use Rattle.quorum.specs.Rules.{Rule, Lawful}
 use Rattle.vote.specs.declared.Vote.{Vote}
@@ -7,18 +7,14 @@ use Rattle.wire.specs.declared.posted.Posted.{Posted}
 use Rattle.wire.specs.Slips.{words_of}
 use Rattle.wire.proofs.Outcomes.{ok_same}
 use Rattle.board.specs.declared.answer.Taken.{Taken}
-use Rattle.board.specs.declared.fault.BoardFault.{BoardFault}
 use Rattle.board.specs.declared.fit.Fit.{Fit}
 use Rattle.board.specs.declared.record.Record.{Record}
 use Rattle.board.specs.Shown.{record_of, answer_of}
 use Rattle.board.specs.Started.{Accepts, slip_of}
-use Rattle.board.specs.Taking.{word_taken, vote_of}
+use Rattle.board.specs.Taking.{vote_of}
 use Rattle.board.proofs.Six.{six_words}
 use Rattle.group.specs.declared.fault.GroupFault.{GroupFault}
-use Rattle.group.specs.declared.fault.GroupFault.TheVariants.{Board as Refuses}
-use Rattle.group.specs.declared.turn.Done.{Done}
 use Rattle.group.specs.declared.turn.Turn.{Turn}
-use Rattle.group.specs.Calls.{done_of, turn_of, heard_with, board_told}
 use Rattle.group.specs.Steps.{BoardTakes}
 
 -- what is Ok once its error is mapped was Ok before
@@ -30,20 +26,6 @@ module _ (R : Rule) (f : Fit) (port : ℕ) (xs : List ℕ) (o p : Record) where
   -- a record is shown at its board
   shown_in : (h : List Vote) → ◌≡◌ {A = Option Record} (Some o) (Some (record_of R f h)) → o ≡ record_of R f h
   shown_in h e = cc
-
-  pub board_refuses : (e : BoardFault) → word_taken R f port xs ≡ Err e → p ≡ o → BoardTakes R f port xs (Some o) (Some p) (Err (Refuses f.board e))
-  board_refuses e is same h shown = (
-    ap {B = Option Record} Some (same ∙ shown_in h shown ∙ ap (λ t. record_of R f (heard_with R f h t)) (sym is)),
-    ap (board_told R f h) (sym is),
-  )
-
-  pub board_takes : (taken : Taken) (slip : Posted) (d : Done) (t : Turn) → Accepts R f port xs o p taken slip → d ≡ done_of taken → t ≡ turn_of d slip
-      → BoardTakes R f port xs (Some o) (Some p) (Ok t)
-  board_takes taken slip d t (w, is, took, own) done turn h shown =
-      let k = took h (shown_in h shown) in (
-        ap {B = Option Record} Some (k.shows ∙ ap (λ t. record_of R f (heard_with R f h t)) (sym is)),
-        ap Ok (turn ∙ ap₂ (λ (x : Done) (p : Posted). turn_of x p) (done ∙ ap done_of k.tells) k.slips) ∙ ap (board_told R f h) (sym is),
-      )
 
   -- no slip is too long
   pub slip_fits : (taken : Taken) (slip : Posted) (q : Option Record) (r : Result Turn GroupFault) → Accepts R f port xs o p taken slip → Lawful R → f.characters ≤ 8

@@ -1,5 +1,5 @@
 -- The settings of a board in a group are good, and which boards lie. Assumes nothing.
-use Rattle.std.proofs.Common.{◌≡◌, ℕ, ◌<◌, Bool, true, false, ◌&&◌, length, refl, arith}
+use Rattle.std.proofs.Common.{◌≡◌, ℕ, ◌<◌, Bool, true, ◌&&◌, length, refl, arith}
 use Rattle.std.proofs.lemmas.Bool.{and_from}
 use Rattle.quorum.specs.Rules.{Rule}
 use Rattle.quorum.specs.Sets.{member}
@@ -22,16 +22,9 @@ fit_sound T i s l is =
     (and_from _ _ (within_from 1 65535 T.change n.change_low n.change_high)
     (and_from _ _ (within_from 0 15 i (omega arith) (omega (arith, l, n.sixteen))) (within_from 1 T.characters s (omega (arith, is, k.0)) (omega (arith, is, k.1))))))
 
-plain_lies : (m : Method) (S : Setting) (b : Bool) → m ≡ Plain → false ≡ ((method_of m S).may_lie && b)
-plain_lies Plain S b e = refl
-plain_lies Echo S b e = absurd (let z : ◌≡◌ {A = ℕ} 0 1 = cc in omega arith)
-
 echo_lies : (m : Method) (S : Setting) (b : Bool) → m ≡ Echo → b ≡ ((method_of m S).may_lie && b)
 echo_lies Echo S b e = refl
 echo_lies Plain S b e = absurd (let z : ◌≡◌ {A = ℕ} 0 1 = cc in omega arith)
-
-pub none_lies : (R : Rule) (T : Terms) (i : ℕ) → T.method ≡ Plain → false ≡ lies R T i
-none_lies R T i e = plain_lies T.method (setting_in R T) (member i T.listed) e
 
 pub listed_lies : (R : Rule) (T : Terms) (i : ℕ) → T.method ≡ Echo → member i T.listed ≡ lies R T i
 listed_lies R T i e = echo_lies T.method (setting_in R T) (member i T.listed) e

@@ -29,9 +29,6 @@ four a true b false c c' d d' x y z w p q r s = rw (p, q refl)
 four a true b true c false d d' x y z w p q r s = rw (p, q refl, r refl refl)
 four a true b true c true d d' x y z w p q r s = rw (p, q refl, r refl refl, s refl refl refl)
 
-and_both : (a b a' b' : Bool) → a ≡ a' → b ≡ b' → (a && b) ≡ (a' && b')
-and_both a b a' b' p q = rw (p, q)
-
 module _ (R : Rule) (T : Terms) (r : List Event) where
   pub start_stands : (i : ℕ) (inside liar begun : Bool) → inside ≡ ltb i R.crew → liar ≡ lies R T i → (i < R.crew → begun ≡ given (start_of r i))
       → cond inside (cond (not liar) (cond (not begun) None (Some Begun)) (Some Listed)) (Some Outside) ≡ start_fault R T r i

@@ -7,6 +7,7 @@ ghost use Rattle.group.specs.Sound.{all_characters};
 
 use crate::fault::GroupFault;
 use crate::group::Group;
+use crate::limits::BOARDS;
 use crate::opening::Opening;
 use crate::records::Records;
 use crate::terms::Terms;
@@ -29,12 +30,12 @@ fn own_start(inside: bool, start: u16) -> u8
     if inside { start.min(255) as u8 } else { 1 }
 }
 
-fn own_starts(starts: &[u16; 16], crew: u8) -> [u8; 16]
+fn own_starts(starts: &[u16; BOARDS], crew: u8) -> [u8; BOARDS]
     ensures { result ≡ table 16 (kept_start crew starts.now) }
 {
-    let mut own = [1; 16];
+    let mut own = [1; BOARDS];
     // tried with `array::from_fn`: the proof that each place has what the closure gives did not close
-    for i in 0..16 {
+    for i in 0..BOARDS {
         own[i] = own_start(i < crew as usize, starts[i]);
     }
     own
@@ -76,7 +77,7 @@ impl<R: FailureRule + Drop> Group<R> {
         Ok(Group {
             rule,
             terms,
-            records: Records { boards: [None; 16] },
+            records: Records { boards: [None; BOARDS] },
         })
     }
 }

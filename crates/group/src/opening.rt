@@ -3,6 +3,7 @@ ghost use Rattle.std.specs.Prelude.{◌≡◌, length};
 ghost use Rattle.group.specs.Opening.{opening_fault};
 
 use crate::fault::GroupFault;
+use crate::limits::BOARDS;
 use quorum::FailureRule;
 use vote::Method;
 
@@ -16,7 +17,7 @@ pub struct Opening {
     pub change: u32,
     // the boards listed bad, as a set
     pub listed: u16,
-    pub starts: [u16; 16],
+    pub starts: [u16; BOARDS],
 }
 
 // What stands against opening a group under the rule, by rising number.

@@ -2,8 +2,10 @@
 ghost use Rattle.std.specs.Prelude.{◌≡◌, true};
 ghost use Rattle.group.specs.Sound.{sound_terms};
 
+use crate::limits::BOARDS;
 use vote::{Depth, Method};
 
+// What a board's `Fit` has too is spelled out in both: a struct of the shared numbers would be no plainer, as each use would only name one field more.
 #[derive(Clone, Copy)]
 pub struct Terms {
     pub(crate) method: Method,
@@ -14,6 +16,6 @@ pub struct Terms {
     // the boards listed bad, as a set
     pub(crate) listed: u16,
     // the starting character of each board; beyond the crew it means nothing
-    pub(crate) starts: [u8; 16],
+    pub(crate) starts: [u8; BOARDS],
     ghost sound: { sound_terms characters group change starts ≡ true },
 }
