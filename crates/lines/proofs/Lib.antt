@@ -4,4 +4,5 @@ pub mod MarkedCases
 pub mod Spelling
 pub mod Writing
 pub mod Fields
+pub mod Meaning
 pub mod Readable
