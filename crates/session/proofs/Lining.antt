@@ -1,8 +1,9 @@
 -- From a call to the line that writes it, and from what lines have led to to the promise. Assumes nothing.
-use Rattle.std.proofs.Common.{◌≡◌, ℕ, List, take, Some, None, Option, Result, ap, ap₂, ◌∙◌, subst}
+use Rattle.std.proofs.Common.{◌≡◌, ℕ, List, Some, None, Option, Result, ap, ap₂, ◌∙◌, subst}
 use Rattle.quorum.specs.declared.either.EitherRule.{EitherRule}
 use Rattle.quorum.specs.declared.either.EitherRule.TheVariants.{Count, Listed}
 use Rattle.quorum.specs.Good.{count_good, listed_good}
+use Rattle.fixed.specs.Items.{items_of}
 use Rattle.quorum.specs.Meaning.{either_rule}
 use Rattle.quorum.specs.Rules.{Lawful}
 use Rattle.lines.specs.Calls as lines
@@ -28,7 +29,7 @@ line_plays g h line x letter r is same plays ls led =
 
 lawful : (x : EitherRule) → Lawful (either_rule x)
 lawful (Count x) = count_good x.crew x.cover x.f x.good
-lawful (Listed x) = listed_good x.crew x.cover (take x.many x.sets) x.good
+lawful (Listed x) = listed_good x.crew x.cover (items_of x.sets) x.good
 
 shown_promised : (g : Option (Group EitherRule)) (s : Standing) → Shows g s → Promised g s
 shown_promised None nothing_open s = tt

@@ -1,6 +1,6 @@
 -- What each fault of a session tells. Assumes nothing.
 use Rattle.refusal.specs.declared.Refusal.{Refusal}
-use Rattle.board.specs.Faults.{told}
+use Rattle.refusal.specs.Told.{told}
 use Rattle.quorum.specs.Faults as quorum
 use Rattle.group.specs.Faults as group
 use Rattle.session.specs.declared.fault.SessionFault.{SessionFault}
