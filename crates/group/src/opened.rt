@@ -77,7 +77,9 @@ impl<R: FailureRule + Drop> Group<R> {
         Ok(Group {
             rule,
             terms,
-            records: Records { boards: [None; BOARDS] },
+            records: Records {
+                boards: [None; BOARDS],
+            },
         })
     }
 }
