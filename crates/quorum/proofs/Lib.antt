@@ -1,6 +1,5 @@
 pub mod Masks
 pub mod Sharing
 pub mod Tested
-pub mod Walks
 pub mod Table
 pub mod Holders

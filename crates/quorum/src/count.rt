@@ -4,7 +4,7 @@ ghost use Rattle.quorum.specs.Counting.{count_rule};
 ghost use Rattle.quorum.specs.Faults.{count_fault, Made};
 ghost use Rattle.quorum.specs.Good.{count_good};
 
-use crate::fault::{RuleFault, size_fault};
+use crate::fault::{RuleFault, check_size};
 use crate::rule::FailureRule;
 use crate::set::in_crew;
 
@@ -21,27 +21,22 @@ pub struct CountRule {
 pub fn count_fault(crew: u16, cover: u16, f: u16) -> Option<RuleFault>
     ensures { result ≡ count_fault crew cover f }
 {
-    if let Some(fault) = size_fault(crew, cover) {
-        return Some(fault);
-    }
-    if cover as u32 * f as u32 >= crew as u32 {
-        return Some(RuleFault::WholeCrew);
-    }
-    None
+    CountRule::new(crew, cover, f).err()
 }
 
 impl CountRule {
     pub fn new(crew: u16, cover: u16, f: u16) -> Result<CountRule, RuleFault>
         ensures { Made (count_fault crew cover f) (count_rule crew cover f) (λ x. count_rule x.crew x.cover x.f) result }
     {
-        match count_fault(crew, cover, f) {
-            Some(fault) => Err(fault),
-            None => Ok(CountRule {
-                crew: crew as u8,
-                cover: cover as u8,
-                f,
-            }),
+        check_size(crew, cover)?;
+        if cover as u32 * f as u32 >= crew as u32 {
+            return Err(RuleFault::WholeCrew);
         }
+        Ok(CountRule {
+            crew: crew as u8,
+            cover: cover as u8,
+            f,
+        })
     }
 }
 

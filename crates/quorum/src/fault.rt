@@ -1,5 +1,5 @@
 // Why a rule cannot be made.
-ghost use Rattle.std.specs.Prelude.{◌≡◌, None};
+ghost use Rattle.std.specs.Prelude.{◌≡◌, None, Some, MatchResult};
 ghost use Rattle.quorum.specs.Asked.{MarkedCases};
 ghost use Rattle.quorum.specs.Faults.{number_of, refusal_of, size_fault};
 
@@ -39,15 +39,21 @@ impl From<RuleFault> for Refusal {
 }
 
 // What stands against a crew of this size and this cover, whatever the kind of the rule, if anything does.
-// Stays an `Option`, as `count_fault` and `listed_fault` do: the fault is what is asked for, and to find none is no failure.
 pub fn size_fault(crew: u16, cover: u16) -> Option<RuleFault>
     ensures { result ≡ size_fault crew cover None }
 {
+    check_size(crew, cover).err()
+}
+
+// Refuses a size of the crew or a cover that is not allowed.
+pub(crate) fn check_size(crew: u16, cover: u16) -> Result<(), RuleFault>
+    ensures { MatchResult result (λ _. size_fault crew cover None ≡ None) (λ e. size_fault crew cover None ≡ Some e) }
+{
     if !(1..=MAX_CREW as u16).contains(&crew) {
-        return Some(RuleFault::Crew);
+        return Err(RuleFault::Crew);
     }
     if !(MIN_COVER as u16..=MAX_COVER as u16).contains(&cover) {
-        return Some(RuleFault::Cover);
+        return Err(RuleFault::Cover);
     }
-    None
+    Ok(())
 }

@@ -8,7 +8,7 @@ ghost use Rattle.quorum.specs.Listing.{sets_fit, held, listed_rule, HeldMeansIt}
 ghost use Rattle.quorum.specs.Faults.{listed_fault, Made};
 ghost use Rattle.quorum.specs.Good.{listed_good};
 
-use crate::fault::{RuleFault, size_fault};
+use crate::fault::{RuleFault, check_size};
 use crate::limits::MAX_LISTED;
 use crate::rule::FailureRule;
 use crate::set::{in_crew, outside, part};
@@ -63,31 +63,27 @@ pub fn listed_fault(crew: u16, cover: u16, sets: &[u16]) -> Option<RuleFault>
     ensures value { result ≡ listed_fault crew cover sets.now }
     ensures a_crew_that_is_not_spared_is_held_by_listed_sets { HeldMeansIt crew sets.now cover }
 {
-    if let Some(fault) = size_fault(crew, cover) {
-        return Some(fault);
-    }
-    let crew = crew as u8;
-    if !sets_fit(crew, sets) {
-        return Some(RuleFault::Sets);
-    }
-    if hold_all(crew, sets, cover as u8, 0) {
-        return Some(RuleFault::WholeCrew);
-    }
-    None
+    ListedRule::new(crew, cover, sets).err()
 }
 
 impl ListedRule {
     pub fn new(crew: u16, cover: u16, sets: &[u16]) -> Result<ListedRule, RuleFault>
         ensures { Made (listed_fault crew cover sets.now) (listed_rule crew cover sets.now) (λ x. listed_rule x.crew x.cover (items_of x.sets)) result }
     {
-        match listed_fault(crew, cover, sets) {
-            Some(fault) => Err(fault),
-            None => Ok(ListedRule {
-                crew: crew as u8,
-                cover: cover as u8,
-                sets: Fixed::from_slice(0, sets).unwrap(),
-            }),
+        check_size(crew, cover)?;
+        let crew = crew as u8;
+        let cover = cover as u8;
+        if !sets_fit(crew, sets) {
+            return Err(RuleFault::Sets);
         }
+        if hold_all(crew, sets, cover, 0) {
+            return Err(RuleFault::WholeCrew);
+        }
+        Ok(ListedRule {
+            crew,
+            cover,
+            sets: Fixed::from_slice(0, sets).unwrap(),
+        })
     }
 }
 
