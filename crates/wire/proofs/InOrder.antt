@@ -35,25 +35,25 @@ module _ {A B : Type 0} (g : A → List B) where
 
 -- a loop that puts the bytes of part after part
 module _ {A : Type 0} (g : A → List ℕ) (f : ℕ → List A) (old : List ℕ) where
-  abbrev pub Putting : ℕ → ℕ → List ℕ → Type 0
-  Putting i len buf = (len ≡ length (flat_map g (in_order f i))) × (buf ≡ put_front (flat_map g (in_order f i)) old)
+  abbrev pub PuttingFront : ℕ → ℕ → List ℕ → Type 0
+  PuttingFront i len buf = (len ≡ length (flat_map g (in_order f i))) × (buf ≡ put_front (flat_map g (in_order f i)) old)
 
-  module _ (n : ℕ) (room : length (flat_map g (in_order f n)) ≤ length old) (i len : ℕ) (buf : List ℕ) (lt : i < n) (so : Putting i len buf) where
+  module _ (n : ℕ) (room : length (flat_map g (in_order f n)) ≤ length old) (i len : ℕ) (buf : List ℕ) (lt : i < n) (so : PuttingFront i len buf) where
     more : length (flat_map g (in_order f (i + 1))) ≡ length (flat_map g (in_order f i)) + length (flat_map g (f i))
     more = ap length (joined_more g f i) ∙ length-append (flat_map g (in_order f i)) (flat_map g (f i))
 
     pub putting_room : length buf ≡ length old → length (flat_map g (f i)) ≤ length (take (length buf - len) (drop len buf))
     putting_room same = room_behind len (length (flat_map g (f i))) buf (omega (arith, more, joined_le g f (i + 1) n (omega arith)))
 
-    pub putting_more : (put : ℕ) (part : List ℕ) → put ≡ length (flat_map g (f i)) → part ≡ put_front (flat_map g (f i)) (take (length buf - len) (drop len buf)) → Putting (i + 1) (len + put) (put_mid len (length buf - len) buf part)
-    putting_more put part put_is is = (
+    pub putting_behind : (put : ℕ) (part : List ℕ) → put ≡ length (flat_map g (f i)) → part ≡ put_front (flat_map g (f i)) (take (length buf - len) (drop len buf)) → PuttingFront (i + 1) (len + put) (put_mid len (length buf - len) buf part)
+    putting_behind put part put_is is = (
       omega (arith, more),
       put_behind len (flat_map g (in_order f i)) (flat_map g (f i)) old buf part so.0 (omega (arith, joined_le g f i n (omega arith))) so.1 is
           ∙ ap (λ l. put_front l old) (sym (joined_more g f i)),
     )
 
     -- a part without bytes
-    pub putting_none : flat_map g (f i) ≡ [] → Putting (i + 1) len buf
+    pub putting_none : flat_map g (f i) ≡ [] → PuttingFront (i + 1) len buf
     putting_none none =
         let same : flat_map g (in_order f i) ≡ flat_map g (in_order f (i + 1)) = sym (joined_more g f i ∙ ap (λ l. flat_map g (in_order f i) ++ l) none ∙ append-nil (flat_map g (in_order f i))) in (
           so.0 ∙ ap length same,

@@ -7,6 +7,7 @@ pub mod PutFront
 pub mod Widths
 pub mod Ranging
 pub mod InOrder
+pub mod PutAt
 pub mod Counting
 pub mod Slipped
 pub mod MarkedCases

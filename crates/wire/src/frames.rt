@@ -9,7 +9,7 @@ use crate::limits::MAX_VALUE;
 use crate::posted::{KINDS, Posted};
 use crate::write::{frame_len, put_frame};
 
-// How many values a word can have, 0 included.
+// How many values a word can have, 0 included. `vote` has this number too, and `quorum` a test of such bits: this crate builds on neither.
 const VALUES: u8 = MAX_VALUE as u8 + 1;
 
 // How many sets of values there are.
@@ -28,6 +28,7 @@ impl Posted {
             return 0;
         }
         let mut len = 0;
+        // a range: the value itself is wanted, not a place in a list
         for value in 0..VALUES {
             if (values >> value) % 2 == 1 {
                 len += put_frame(self.word(kind, value), &mut buf[len..]);
@@ -43,6 +44,7 @@ impl Posted {
         ensures buffer { buf.new ≡ put_front (frames_of self.now) buf.old }
     {
         let mut len = 0;
+        // a range: the kind itself is wanted, not its set alone
         for kind in 1..=KINDS as u8 {
             len += self.put_kind(kind, &mut buf[len..]);
         }

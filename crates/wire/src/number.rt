@@ -10,6 +10,7 @@ pub(crate) fn width(number: u16) -> usize
     ensures value { result ≡ length (decimal number) }
     ensures bound { result ≤ 5 }
 {
+    // stays a table: the library has no `checked_ilog10`
     match number {
         0..=9 => 1,
         10..=99 => 2,

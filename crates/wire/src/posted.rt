@@ -1,12 +1,14 @@
 // The words that one board has posted of one change, as a set.
 ghost use Rattle.std.specs.Prelude.{◌≡◌, ℕ, ◌≤◌};
 
+use crate::limits::MAX_KIND;
 use crate::word::Word;
 
 // How many kinds of words there are, counted from 1.
-pub const KINDS: usize = 5;
+pub const KINDS: usize = MAX_KIND as usize;
 
-// Group, change and sender are no struct of their own, as in `Word`: a frame has its fields side by side, each with a range of its own.
+// Group, change and sender stay three fields, as in `Word`: each is read alone where a frame or a refusal is made, and only the two calls that make
+// an empty set take the three together.
 #[derive(Clone, Copy, Debug)]
 pub struct Posted {
     pub group: u16,

@@ -84,6 +84,7 @@ impl Slip {
         ensures buffer { buf.new ≡ buffer_after (frames_of self.posted) (mapped_both (λ n. n) (λ e. e.1) result) buf.old }
         ensures handed_back { IfErr result (λ e. e.0.posted ≡ self.posted) }
     {
+        // matched by hand: a closure for `map_err` would capture the slip, which may not be let go with words
         match self.write(buf) {
             Ok(len) => Ok(len),
             Err(fault) => Err((self, fault)),

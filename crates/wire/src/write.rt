@@ -69,6 +69,7 @@ pub fn write_word(word: Word, buf: &mut [u8]) -> Result<usize, FrameFault>
     ensures no_byte_behind_is_other_than_zero { IfOk result (λ n. (k : ℕ) → n ≤ k → slice_index buf.new k ≡ 0) }
 {
     check_ranges(word)?;
+    // these lines stand in `Slip::write` too: a helper would take what puts the bytes as a closure, with clauses longer than they are
     if buf.len() < frame_len(word) {
         return Err(FrameFault::ShortBuffer);
     }
