@@ -7,15 +7,14 @@ ghost use Rattle.std.specs.Prelude.{◌≡◌, ◌<◌, ◌≤◌, ⊤, [], ◌�
 use std::alloc::AllocError;
 
 // The first `many` places hold the items.
+#[derive(Copy)]
 pub struct Fixed<T, const N: usize> {
     places: [T; N],
     many: usize,
     ghost inside: { many ≤ N },
 }
 
-impl<T: Copy, const N: usize> Copy for Fixed<T, N> {}
-
-// By hand, as no derive is given for a struct with a ghost field whose items are of any type.
+// By hand: `Clone` is not derived for a struct with a ghost field.
 impl<T: Copy, const N: usize> Clone for Fixed<T, N> {
     ghost is_clone = { λ x y. y ≡ x };
 

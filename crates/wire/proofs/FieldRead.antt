@@ -3,8 +3,9 @@ use Rattle.std.proofs.Common.{◌≡◌, ℕ, ◌+◌, ◌-◌, ◌<◌, ◌≤�
 use Rattle.std.proofs.lemmas.List.Sums.{prefix_len-le-length}
 use Rattle.std.proofs.lemmas.List.{length-drop, take_rest}
 use Rattle.std.proofs.lemmas.Bool.{cond-true, cond-false, eq-eqb, eqb-true, ne_eqb, lt-leb, ltb-false, and_parts, and_right}
+use Rattle.std.proofs.lemmas.Option.{cond_some}
 use Rattle.wire.specs.Faults.{fault}
-use Rattle.wire.proofs.Outcomes.{held, not_held}
+use Rattle.wire.proofs.Outcomes.{not_held}
 use Rattle.wire.specs.Fields.{is_digit, run, value_of, number, digits, zero_leads, is_within, field_at}
 
 -- the reader's rest of the bytes, `&bytes[p..]`
@@ -30,7 +31,7 @@ module _ (xs : List ℕ) (p low high : ℕ) where
 
     module _ (n len : ℕ) (some : o ≡ Some (n, len)) where
       parts : ◌≡◌ {A = ℕ × ℕ} (number (drop p xs), run (drop p xs)) (n, len)
-      parts = held (ltb (number (drop p xs)) 65536) (number (drop p xs), run (drop p xs)) (n, len) (sym said ∙ some)
+      parts = (cond_some (ltb (number (drop p xs)) 65536) (number (drop p xs), run (drop p xs)) (n, len) (sym said ∙ some)).1
 
       long : run (drop p xs) ≡ len
       long = ap (λ x. x.1) parts

@@ -26,10 +26,6 @@ ok_then (Err d) f y e = cc
 
 -- what is there under a test
 module _ {X : Type 0} where
-  pub held : (b : Bool) (x y : X) → cond b (Some x) None ≡ Some y → x ≡ y
-  held true x y e = cc
-  held false x y e = cc
-
   pub not_held : (b : Bool) (x : X) → cond b (Some x) None ≡ None → b ≡ false
   not_held true x e = cc
   not_held false x e = refl

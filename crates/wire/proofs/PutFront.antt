@@ -77,3 +77,32 @@ module _ (bytes : List ℕ) where
       (λ lt. get_or-replicate (room - length bytes) (k - length bytes) 0 0 lt)
       (λ ge. get_or_past zeros (k - length bytes) 0 (omega (arith, length-replicate {A = ℕ} (room - length bytes) 0)))
       (cases_lt (k - length bytes) (room - length bytes))
+
+-- how many bytes the parts have
+abbrev pub bytes_in : List (List ℕ) → ℕ
+bytes_in [] = 0
+bytes_in (part ∷ parts) = length part + bytes_in parts
+
+-- the bytes of some parts are put at the front, n of them, and there is room for the parts that are left
+pub record Filling (done old : List ℕ) (left : List (List ℕ)) (n : ℕ) (buf : List ℕ) : Type 0 where
+  pub long : n ≡ length done
+  pub is : buf ≡ put_front done old
+  pub room : length done + bytes_in left ≤ length old
+
+module _ {done old part : List ℕ} {left : List (List ℕ)} {n : ℕ} {buf : List ℕ} (so : Filling done old (part ∷ left) n buf) where
+  same_room : length buf ≡ length old
+  same_room = let r : length done + (length part + bytes_in left) ≤ length old = so.room in ap length so.is ∙ length_put done old (omega arith)
+
+  pub filling_room : length part ≤ length (take (length buf - n) (drop n buf))
+  filling_room =
+      let r : length done + (length part + bytes_in left) ≤ length old = so.room in
+      room_behind n (length part) buf (omega (arith, same_room, so.long))
+
+  pub filling_more : {m : ℕ} {new : List ℕ} → m ≡ length part → new ≡ put_front part (take (length buf - n) (drop n buf)) → Filling (done ++ part) old left (n + m) (put_mid n (length buf - n) buf new)
+  filling_more {m} {new} put_long put =
+      let r : length done + (length part + bytes_in left) ≤ length old = so.room in
+      record {
+        long = omega (arith, so.long, length-append done part);
+        is = put_behind n done part old buf new so.long (omega arith) so.is put;
+        room = omega (arith, length-append done part);
+      }

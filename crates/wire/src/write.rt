@@ -48,6 +48,7 @@ fn place_behind(number: u16, low: u16, high: u16, place: usize) -> Result<usize,
 }
 
 // Refuses a word that no frame can carry: tells its first number that is out of its range, by the place where the field would begin.
+#[tactic(auto, using(crate::proofs::Ranging::by_places))]
 pub(crate) fn check_ranges(word: Word) -> Result<(), FrameFault>
     ensures { result ≡ unless (range_fault word) (Ok tt) }
 {
