@@ -23,4 +23,4 @@ pub use fault::{RuleFault, size_fault};
 pub use limits::{MAX_COVER, MAX_CREW, MAX_LISTED, MIN_COVER};
 pub use listed::{ListedRule, listed_fault};
 pub use rule::FailureRule;
-pub use set::{has, in_crew, part};
+pub use set::{has, in_crew, part, without};

@@ -1,5 +1,5 @@
 // Sets of boards as numbers: board i adds 2 to the power i.
-ghost use Rattle.std.specs.Prelude.{◌≡◌, ◌≤◌};
+ghost use Rattle.std.specs.Prelude.{◌≡◌, ◌-◌, ◌≤◌, bit_and};
 ghost use Rattle.quorum.specs.Limits.{max_crew};
 ghost use Rattle.quorum.specs.Sets.{member, rest, part, in_crew};
 
@@ -18,8 +18,14 @@ pub(crate) fn outside(crew: u8, set: u16) -> u16
     ensures { result ≡ rest crew set }
 {
     let full = (1u32 << crew) - 1;
-    let left = full - (full & set as u32);
-    left as u16
+    without(full as u16, set)
+}
+
+// The boards of the one set that are not in the other.
+pub fn without(set: u16, other: u16) -> u16
+    ensures { result ≡ set - bit_and set other }
+{
+    set - (set & other)
 }
 
 // Whether each board of the one set is in the other.
