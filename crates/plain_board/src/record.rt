@@ -6,7 +6,7 @@ ghost use Rattle.vote.specs.Setting.{Setting};
 ghost use Rattle.agreement.specs.Plain.{branch as branch_by, decided as decided_by, posts};
 ghost use Rattle.plain_board.specs.Limits.{max_value};
 ghost use Rattle.plain_board.specs.Marks.{PlainMarks};
-ghost use Rattle.plain_board.specs.Shown.{setting, record_of};
+ghost use Rattle.plain_board.specs.Shown.{setting_in, record_of};
 ghost use Rattle.plain_board.specs.Step.{repeats as repeats_in, Counts};
 
 use crate::outcome::stage_on;
@@ -94,8 +94,8 @@ impl PlainRecord {
         requires sender_lt_max_crew { (vote.sender < max_crew) × (vote.sender < (R.meaning voting.now.rule.now).crew) }
         requires le_kind { (1 ≤ vote.kind) × (vote.kind ≤ 2) }
         requires value_le_max_value { vote.value ≤ max_value }
-        ensures shows { Counts (setting (R.meaning voting.now.rule.now) voting.now.characters voting.now.depth) vote self.old self.new result }
-        ensures marks { PlainMarks (setting (R.meaning voting.now.rule.now) voting.now.characters voting.now.depth) }
+        ensures shows { Counts (setting_in voting.now) vote self.old self.new result }
+        ensures marks { PlainMarks (setting_in voting.now) }
     {
         if self.repeats(vote) {
             return None;
