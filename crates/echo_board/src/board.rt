@@ -77,7 +77,8 @@ impl EchoRecord {
         }
     }
 
-    // Counts the vote, unless it is counted already (None), makes the seven tests, and says what is newly posted. The tests go on after the decision.
+    // Counts the vote, unless it is counted already (None), makes the tests that have no answer yet, those of the echoes after an echo alone, and says what is newly
+    // posted. The other tests go on after the decision.
     pub fn count<R: FailureRule>(&mut self, voting: &Voting<R>, vote: Vote) -> Option<News>
         requires crew { (R.meaning voting.now.rule.now).crew ≤ max_crew }
         requires sender { vote.sender < (R.meaning voting.now.rule.now).crew }

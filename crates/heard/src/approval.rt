@@ -29,7 +29,7 @@ impl Heard {
         ample(voting.rule, self.echoes[0]) || self.two_approved(voting)
     }
 
-    // Whether it is mixed, and all senders of the kind are ample.
+    // Whether it is mixed, and all senders of the kind are ample. The kind stays a number, as in a Vote: the tests are said of all numbers.
     pub(crate) fn late<R: FailureRule>(&self, voting: &Voting<R>, kind: u8) -> bool
         requires { (1 ≤ kind) × (kind ≤ max_kind) }
         ensures { Makes voting.now (λ S x. is_mixed S x && ample_by S.rule (speaks x kind)) self.now result }
