@@ -31,11 +31,9 @@ pub(crate) fn stage_on<R: FailureRule>(voting: &Voting<R>, branch: u8, second: &
 {
     match voting.depth {
         Depth::One => Stage::Decided(branch, Decision::graded(1, branch)),
-        Depth::Two => {
-            if ample(voting.rule, second.all) {
-                return Stage::Decided(branch, compared(voting, second, branch));
-            }
-            Stage::Comparing(branch)
+        Depth::Two if ample(voting.rule, second.all) => {
+            Stage::Decided(branch, compared(voting, second, branch))
         }
+        Depth::Two => Stage::Comparing(branch),
     }
 }
