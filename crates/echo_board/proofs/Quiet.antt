@@ -1,5 +1,5 @@
 -- A vote of another kind than 1 makes no echo due that was not before. Assumes nothing but that nobody may fail.
-use Rattle.std.proofs.Common.{◌≡◌, ℕ, suc, Bool, true, false, not, ◌&&◌, ◌||◌, eqb, leb, List, [], ◌∷◌, Option, sym, refl, ap, ◌∙◌, ap₂, arith}
+use Rattle.std.proofs.Common.{◌≡◌, ℕ, suc, Bool, true, false, not, ◌&&◌, ◌||◌, eqb, leb, List, [], ◌∷◌, Option, sym, ap, ◌∙◌, ap₂, arith}
 use mathlib.Core.Path.{fun_ext}
 use mathlib.Core.Bool.{and-false, or-false}
 use Rattle.std.proofs.lemmas.Bool.{or_right, ne_eqb, not_from_true}

@@ -8,7 +8,7 @@ use Rattle.vote.specs.declared.Depth.TheVariants.{One, Two}
 use Rattle.vote.specs.declared.Vote.{Vote}
 use Rattle.vote.specs.History.{Seen, seen, speaks}
 use Rattle.vote.specs.Search.{given, seek, when}
-use Rattle.vote.specs.Setting.{Setting, grades, decision_on, lowest}
+use Rattle.vote.specs.Setting.{Setting, decision_on, lowest}
 use Rattle.agreement.specs.Plain.{all_say, some_says, compared, decided}
 use Rattle.plain_board.specs.Read.{verdict_on}
 use Rattle.plain_board.proofs.Memory.{branch_low, decided_when}

@@ -1,7 +1,7 @@
 -- A tally with nobody in it, with one sender more, and after a word of another kind. Assumes nothing.
 use Rattle.std.proofs.Common.{◌≡◌, ℕ, ◌≤◌, eqb, List, [], ◌∷◌, None, sym, refl, ap, ◌∙◌}
 use mathlib.Core.Path.{fun_ext}
-use Rattle.std.proofs.lemmas.Bool.{eq-eqb, ne_eqb}
+use Rattle.std.proofs.lemmas.Bool.{eq-eqb}
 use Rattle.vote.specs.declared.Vote.{Vote}
 use Rattle.vote.specs.Search.{or_else, when}
 use Rattle.vote.specs.History.{seen, first}
