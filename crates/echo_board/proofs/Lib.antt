@@ -2,7 +2,6 @@ pub mod Starts
 pub mod Quiet
 pub mod Memory
 pub mod Fields
-pub mod Answered
 pub mod Step
 pub mod Once
 pub mod Stays

@@ -1,5 +1,5 @@
 -- A vote of another kind than 1 makes no echo due that was not before. Assumes nothing but that nobody may fail.
-use Rattle.std.proofs.Common.{◌≡◌, ℕ, suc, Bool, true, false, not, ◌&&◌, ◌||◌, eqb, leb, List, [], ◌∷◌, Option, sym, refl, ap, ◌∙◌, ap₂, arith}
+use Rattle.std.proofs.Common.{◌≡◌, ℕ, suc, Bool, true, false, not, ◌&&◌, ◌||◌, eqb, leb, List, [], ◌∷◌, Option, sym, ap, ◌∙◌, ap₂, arith}
 use mathlib.Core.Path.{fun_ext}
 use mathlib.Core.Bool.{and-false, or-false}
 use Rattle.std.proofs.lemmas.Bool.{or_right, ne_eqb, not_from_true}
@@ -10,7 +10,7 @@ use Rattle.vote.specs.History.{seen, counted, first, ever}
 use Rattle.vote.specs.Search.{all_below}
 use Rattle.vote.specs.Setting.{Setting}
 use Rattle.agreement.specs.Echo.{other, echoes, parted, echoed}
-use Rattle.vote.proofs.Options.{else_none}
+use Rattle.vote.proofs.Counting.{first_other}
 use Rattle.echo_board.proofs.Once.{or_same}
 use Rattle.vote.proofs.Seeking.{set_of_none, all_found}
 
@@ -43,15 +43,11 @@ module _ (S : Setting) (nobody : S.rule.fails 0 ≡ true) where
     unfolding counted
     echo_same v = fun_ext (λ i. rw (ne_eqb w.kind 1 ne) (or-false (counted h 1 v i)))
 
-    opening_same : first (w ∷ h) 1 ≡ first h 1
-    unfolding first
-    opening_same = fun_ext (λ i. rw (ne_eqb w.kind 1 ne) (sym (else_none (first h 1 i))))
-
     due_same : (v : ℕ) → echoes S v (seen (w ∷ h)) ≡ echoes S v (seen h)
     unfolding echoes parted
     due_same v =
         ap₂ (λ (p : ℕ → Bool) (f : ℕ → Option ℕ). strong_by S.rule p || (eqb v 0 && all_below (suc S.characters) (λ u. strong_by S.rule (λ i. other u (f i)))))
-        (echo_same v) opening_same
+        (echo_same v) (first_other w h 1 ne)
 
     pub echoed_same : (start v : ℕ) → echoed S start (w ∷ h) v ≡ echoed S start h v
     unfolding echoed ever

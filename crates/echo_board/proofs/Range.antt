@@ -11,6 +11,7 @@ use Rattle.vote.specs.Search.{or_else, when, is}
 use Rattle.vote.specs.Setting.{Setting, lowest, decision_on, grades}
 use Rattle.agreement.specs.Echo.{decides, second, third, outcome, fifth, found, mixed, backed, verdict, said, echoed, decided, posts}
 use Rattle.vote.proofs.Options.{is_found, holds_one, holds_none, else_cases, when_found}
+use Rattle.vote.proofs.Grades.{FitsIn, graded_fits}
 use Rattle.vote.proofs.Seeking.{seek_found}
 use Rattle.vote.proofs.Memories.{memo_sound}
 use Rattle.echo_board.specs.Laws.{last_kind}
@@ -63,39 +64,32 @@ module _ (S : Setting) where
           (λ h v. found_low S.depth c (seen h) v) (λ w h v k. k) h v (is_found v _ q)
 
   -- ---- decisions
-  abbrev In : Depth → Decision → Type 0
-  In d x = (x.value ≤ S.characters) × (x.grade ≤ grades d)
-
-  on_low : (d : Depth) (g v : ℕ) → g ≤ grades d → v ≤ S.characters → In d (decision_on g v)
-  on_low d g zero p q = (omega arith, omega arith)
-  on_low d g (suc v) p q = (q, p)
-
-  decides_low : (d : Depth) (g : ℕ) (o : Option ℕ) → g ≤ grades d → ((v : ℕ) → o ≡ Some v → v ≤ S.characters) → (x : Decision) → decides g o ≡ Some x → In d x
+  decides_low : (d : Depth) (g : ℕ) (o : Option ℕ) → g ≤ grades d → ((v : ℕ) → o ≡ Some v → v ≤ S.characters) → (x : Decision) → decides g o ≡ Some x → FitsIn S d x
   decides_low d g None p f x h = holds_none h
-  decides_low d g (Some v) p f x h = let e : decision_on g v ≡ x = holds_one refl h in rw e at (on_low d g v p (f v refl))
+  decides_low d g (Some v) p f x h = let e : decision_on g v ≡ x = holds_one refl h in rw e at (graded_fits S d g v p (f v refl))
 
-  when_low : (d : Depth) (b : Bool) (x : Decision) → when b (decision_on 0 0) ≡ Some x → In d x
-  when_low d b x h = let e : x ≡ decision_on 0 0 = (when_found b (decision_on 0 0) x h).1 in rw e (on_low d 0 0 (omega arith) (omega arith))
+  when_low : (d : Depth) (b : Bool) (x : Decision) → when b (decision_on 0 0) ≡ Some x → FitsIn S d x
+  when_low d b x h = let e : x ≡ decision_on 0 0 = (when_found b (decision_on 0 0) x h).1 in rw e (graded_fits S d 0 0 (omega arith) (omega arith))
 
-  cond_low : (d : Depth) (b : Bool) (o : Option Decision) (x : Decision) → ((x : Decision) → o ≡ Some x → In d x) → cond b o None ≡ Some x → In d x
+  cond_low : (d : Depth) (b : Bool) (o : Option Decision) (x : Decision) → ((x : Decision) → o ≡ Some x → FitsIn S d x) → cond b o None ≡ Some x → FitsIn S d x
   cond_low d true o x f h = f x h
   cond_low d false o x f h = holds_none h
 
   -- the three ways of the test 7
   ways_low : (p q : ℕ → Bool) (a b : Bool) (y : Decision)
-      → or_else (decides 2 (lowest S p)) (or_else (cond a (decides 1 (lowest S q)) None) (when b (decision_on 0 0))) ≡ Some y → In Two y
+      → or_else (decides 2 (lowest S p)) (or_else (cond a (decides 1 (lowest S q)) None) (when b (decision_on 0 0))) ≡ Some y → FitsIn S Two y
   ways_low p q a b y h =
       ⊎_elim (decides_low Two 2 (lowest S p) (omega arith) (low p) y)
       (λ e. ⊎_elim (cond_low Two a (decides 1 (lowest S q)) y (decides_low Two 1 (lowest S q) (omega arith) (low q))) (when_low Two b y)
       (else_cases (cond a (decides 1 (lowest S q)) None) (when b (decision_on 0 0)) y e))
       (else_cases (decides 2 (lowest S p)) (or_else (cond a (decides 1 (lowest S q)) None) (when b (decision_on 0 0))) y h)
 
-  verdict_low : (d : Depth) (x : Seen) (y : Decision) → verdict S d x ≡ Some y → In d y
+  verdict_low : (d : Depth) (x : Seen) (y : Decision) → verdict S d x ≡ Some y → FitsIn S d y
   unfolding verdict
   verdict_low One x y h = decides_low One 1 (outcome S x) (omega arith) (outcome_low x) y h
   verdict_low Two x y h =
       ways_low (λ v. not (eqb v 0) && ample_by S.rule (says x 5 v)) (backed S x) (mixed S x && ample_by S.rule (speaks x 5)) (ample_by S.rule (says x 5 0)) y h
 
-  pub decision_in_range : (h : List Vote) (d : Decision) → decided S h ≡ Some d → In S.depth d
+  pub decision_in_range : (h : List Vote) (d : Decision) → decided S h ≡ Some d → FitsIn S S.depth d
   unfolding decided
-  decision_in_range h d p = memo_sound (λ g. verdict S S.depth (seen g)) (λ _ d. In S.depth d) (λ h v. verdict_low S.depth (seen h) v) (λ w h v k. k) h d p
+  decision_in_range h d p = memo_sound (λ g. verdict S S.depth (seen g)) (λ _ d. FitsIn S S.depth d) (λ h v. verdict_low S.depth (seen h) v) (λ w h v k. k) h d p

@@ -4,7 +4,7 @@ ghost use Rattle.echo_board.specs.Laws.{EchoBoardKeeps};
 ghost use Rattle.echo_board.specs.Records.{record_of, Counts};
 ghost use Rattle.echo_board.specs.Steps.{remembering, news_in};
 ghost use Rattle.heard.specs.Limits.{max_characters, max_kind};
-ghost use Rattle.heard.specs.Shown.{setting};
+ghost use Rattle.heard.specs.Shown.{setting_in};
 ghost use Rattle.quorum.specs.Limits.{max_crew};
 ghost use Rattle.vote.specs.Setting.{Setting};
 
@@ -77,14 +77,15 @@ impl EchoRecord {
         }
     }
 
-    // Counts the vote, unless it is counted already (None), makes the seven tests, and says what is newly posted. The tests go on after the decision.
+    // Counts the vote, unless it is counted already (None), makes the tests that have no answer yet, those of the echoes after an echo alone, and says what is newly
+    // posted. The other tests go on after the decision.
     pub fn count<R: FailureRule>(&mut self, voting: &Voting<R>, vote: Vote) -> Option<News>
         requires crew { (R.meaning voting.now.rule.now).crew ≤ max_crew }
         requires sender { vote.sender < (R.meaning voting.now.rule.now).crew }
         requires kind { (1 ≤ vote.kind) × (vote.kind ≤ max_kind) }
         requires value { vote.value ≤ voting.now.characters }
-        ensures counts { Counts (setting (R.meaning voting.now.rule.now) voting.now.characters voting.now.depth) vote self.old self.new result }
-        ensures keeps { EchoBoardKeeps (setting (R.meaning voting.now.rule.now) voting.now.characters voting.now.depth) }
+        ensures counts { Counts (setting_in voting.now) vote self.old self.new result }
+        ensures keeps { EchoBoardKeeps (setting_in voting.now) }
     {
         if self.heard.repeats(vote) {
             return None;

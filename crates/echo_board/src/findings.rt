@@ -1,7 +1,7 @@
 // What the record holds of the seven tests, and what those that it has no answer of find now.
 ghost use Rattle.std.specs.Prelude.{◌≡◌, Some, MatchOption};
 ghost use Rattle.echo_board.specs.Steps.{completing, findings_of};
-ghost use Rattle.heard.specs.Shown.{heard_of, setting};
+ghost use Rattle.heard.specs.Shown.{heard_of, setting_in};
 ghost use Rattle.vote.specs.History.{Seen};
 
 use crate::board::EchoRecord;
@@ -20,7 +20,8 @@ pub(crate) struct Findings {
     pub(crate) decision: Option<Decision>,
 }
 
-// What is held, or else what is found. Tried with `or_else`: it takes an FnOnce, and of a test under a rule its contract then told nothing.
+// What is held, or else what is found: where something is held, the test is not made, which saves its time. Tried with `or_else`: it takes an FnOnce, and of a test
+// under a rule its contract then told nothing.
 fn held_or<T, F: Fn() -> Option<T>>(held: Option<T>, find: F) -> Option<T>
     requires { F.pre find }
     ensures { MatchOption held (F.post find result) (λ x. result ≡ Some x) }
@@ -35,7 +36,7 @@ impl EchoRecord {
     // Makes the tests of which there is no answer yet, once a vote of the kind is counted: only an echo can make an echo due.
     // At depth 1 the outcome decides, and there are no kinds 4 and 5.
     pub(crate) fn find<R: FailureRule>(&self, voting: &Voting<R>, kind: u8) -> Findings
-        ensures { (x : Seen) → self.now.heard ≡ heard_of (R.meaning voting.now.rule.now).crew x → result ≡ completing kind self.now (findings_of (setting (R.meaning voting.now.rule.now) voting.now.characters voting.now.depth) x) }
+        ensures { (x : Seen) → self.now.heard ≡ heard_of (R.meaning voting.now.rule.now).crew x → result ≡ completing kind self.now (findings_of (setting_in voting.now) x) }
     {
         let heard = &self.heard;
         let echoes = if kind == ECHO {

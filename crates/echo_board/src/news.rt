@@ -14,13 +14,8 @@ fn value_set(word: Option<u8>) -> u16
     ensures { result ≡ values (λ v. is v word) }
 {
     match word {
-        None => 0,
-        Some(value) => {
-            if value > MAX_CHARACTERS {
-                return 0;
-            }
-            1 << value
-        }
+        Some(value) if value <= MAX_CHARACTERS => 1 << value,
+        _ => 0,
     }
 }
 

@@ -19,7 +19,7 @@ impl EchoRecord {
         self.decision
     }
 
-    // The word of a kind other than 1 that is posted, if it is.
+    // The word of a kind other than 1 that is posted, if it is. The kind stays a number, as in a Vote: posted is said of all numbers.
     #[tactic(auto, using(crate::proofs::Fields::said_none), unfolding(crate::specs::Records::record_of))]
     fn said(&self, kind: u8) -> Option<u8>
         ensures { (S : Setting) (start : ℕ) (h : List Vote) → self.now ≡ record_of S start h → (kind ≢ 1) → result ≡ said_by S h kind }

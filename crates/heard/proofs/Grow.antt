@@ -13,6 +13,7 @@ use Rattle.vote.specs.declared.Vote.{Vote}
 use Rattle.vote.specs.History.{seen, counted, first}
 use Rattle.vote.specs.Search.{given, is, or_else, when}
 use Rattle.vote.proofs.Options.{given_else_when, is_else_same, is_else_other, else_none, else_given}
+use Rattle.vote.proofs.Counting.{first_other}
 use Rattle.vote.proofs.Seeking.{set_of_none}
 use Rattle.heard.specs.declared.tally.Tally.{Tally}
 use Rattle.heard.specs.declared.counted.Heard.{Heard}
@@ -84,7 +85,7 @@ module _ (n : ℕ) (h : List Vote) (w : Vote) (within : w.sender < n) (low : w.v
       (ap (λ (t : Tally). added t w.value w.sender) (table_at 5 (λ j. tally_of n (first h (suc j))) (w.kind - 1) beyond (omega arith))
       ∙ tally_more n (first h (suc (w.kind - 1))) w.value w.sender low within
       ∙ ap (tally_of n) (fun_ext (λ z. rw (eq-eqb w.kind (suc (w.kind - 1)) (sym next)))))
-      (λ j l ne. ap (tally_of n) (fun_ext (λ z. rw (ne_eqb w.kind (suc j) (omega arith)) (else_none (first h (suc j) z)))))
+      (λ j l ne. ap (tally_of n) (sym (first_other w h (suc j) (omega arith))))
 
   echo_more : w.kind ≡ 1 → with_board (table 9 (λ u. set_of n (counted h 1 u))) w.value w.sender ≡ table 9 (λ u. set_of n (counted (w ∷ h) 1 u))
   unfolding counted

@@ -3,4 +3,3 @@ pub mod Read
 pub mod Grow
 pub mod Made
 pub mod Tested
-pub mod Came

@@ -14,6 +14,7 @@ use Rattle.vote.specs.History.{Seen, says, speaks}
 use Rattle.vote.specs.Search.{seek, all_below, some_below, given, is}
 use Rattle.agreement.specs.Echo.{other}
 use Rattle.vote.specs.News.{values}
+use Rattle.vote.proofs.Options.{is_given}
 use Rattle.vote.proofs.Seeking.{nothing_below, seek_ext, some_in}
 use Rattle.heard.specs.declared.tally.Tally.{Tally}
 use Rattle.heard.specs.declared.counted.Heard.{Heard}
@@ -44,12 +45,8 @@ module _ (R : Rule) (k : ℕ) (low : k ≤ 8) (from : ℕ) (f : ℕ → Option �
   unfolding AmpleSetsShare
   none_shared facts few =
       sym (nothing_below (suc k) _ (λ v h. and_right (leb from v) _ (false_since (ample_by R (λ i. is v (f i))) _
-      (facts.grows _ _ (λ i l q. member_set_of R.crew (λ i. given (f i)) i l ∙ borne v (f i) (sym (member_set_of R.crew (λ i. is v (f i)) i l) ∙ q)))
+      (facts.grows _ _ (λ i l q. member_set_of R.crew (λ i. given (f i)) i l ∙ is_given v (f i) (sym (member_set_of R.crew (λ i. is v (f i)) i l) ∙ q)))
       (ap (ample R) (sym (tally_all R.crew f t e)) ∙ few))))
-    where
-      borne : (v : ℕ) (o : Option ℕ) → is v o ≡ true → given o ≡ true
-      borne v None q = absurd (false≢true q)
-      borne v (Some u) q = refl
 
 module _ (R : Rule) (k : ℕ) (low : k ≤ 8) (o : Heard) (x : Seen) (e : o ≡ heard_of R.crew x) where
   pub ample_echo : (v : ℕ) → v ≤ 8 → ample R (get_or o.echoes v 0) ≡ ample_by R (x.echo v)

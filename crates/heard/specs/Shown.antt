@@ -3,7 +3,9 @@ use Rattle.std.specs.Prelude.{◌≡◌, ℕ, suc, List, map, Option}
 use Rattle.std.specs.List.{range_with_len}
 use Rattle.quorum.specs.Sets.{set_of}
 use Rattle.quorum.specs.Rules.{Rule}
+use Rattle.quorum.specs.declared.rule.FailureRule.{Ghosts}
 use Rattle.vote.specs.declared.Depth.{Depth}
+use Rattle.vote.specs.declared.voting.Voting.{Voting}
 use Rattle.vote.specs.History.{Seen}
 use Rattle.vote.specs.Search.{given, is}
 use Rattle.vote.specs.Setting.{Setting}
@@ -12,6 +14,10 @@ use Rattle.heard.specs.declared.counted.Heard.{Heard}
 
 abbrev pub setting : Rule → ℕ → Depth → Setting
 setting R k d = record { rule = R; characters = k; depth = d }
+
+-- what v settles, by the meaning of its rule
+abbrev pub setting_in : {B : Type 0} {m : Ghosts B} → Voting B m → Setting
+setting_in {m = m} v = setting (m.meaning v.rule.now) v.characters v.depth
 
 -- f 0, f 1 and so on, below n
 abbrev pub table : {A : Type 0} → ℕ → (ℕ → A) → List A
@@ -25,6 +31,6 @@ tally_of n f = record { values = table 9 (λ v. set_of n (λ i. is v (f i))); al
 unfoldable pub heard_of : ℕ → Seen → Heard
 heard_of n x = record { echoes = table 9 (λ v. set_of n (x.echo v)); first = table 5 (λ c. tally_of n (x.first (suc c))) }
 
--- r is what the test t makes, under the rule R with k characters, of all that the sets of senders o can show
-abbrev pub Makes : {A : Type 0} → Rule → ℕ → (Setting → Seen → A) → Heard → A → Type 0
-Makes R k t o r = (d : Depth) (x : Seen) → o ≡ heard_of R.crew x → r ≡ t (setting R k d) x
+-- r is what the test t makes, with the rule and the characters of v, of all that the sets of senders o can show
+abbrev pub Makes : {A B : Type 0} {m : Ghosts B} → Voting B m → (Setting → Seen → A) → Heard → A → Type 0
+Makes {m = m} v t o r = (d : Depth) (x : Seen) → o ≡ heard_of (m.meaning v.rule.now).crew x → r ≡ t (setting (m.meaning v.rule.now) v.characters d) x

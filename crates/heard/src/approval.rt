@@ -14,7 +14,7 @@ use vote::Voting;
 impl Heard {
     // Whether two values are approved.
     pub(crate) fn two_approved<R: FailureRule>(&self, voting: &Voting<R>) -> bool
-        ensures { Makes (R.meaning voting.now.rule.now) voting.now.characters two_approved self.now result }
+        ensures { Makes voting.now two_approved self.now result }
     {
         match lowest_ample(voting, &self.echoes, 0) {
             None => false,
@@ -24,15 +24,15 @@ impl Heard {
 
     // Whether 0 is approved, or any two values are.
     pub(crate) fn mixed<R: FailureRule>(&self, voting: &Voting<R>) -> bool
-        ensures { Makes (R.meaning voting.now.rule.now) voting.now.characters is_mixed self.now result }
+        ensures { Makes voting.now is_mixed self.now result }
     {
         ample(voting.rule, self.echoes[0]) || self.two_approved(voting)
     }
 
-    // Whether it is mixed, and all senders of the kind are ample.
+    // Whether it is mixed, and all senders of the kind are ample. The kind stays a number, as in a Vote: the tests are said of all numbers.
     pub(crate) fn late<R: FailureRule>(&self, voting: &Voting<R>, kind: u8) -> bool
         requires { (1 ≤ kind) × (kind ≤ max_kind) }
-        ensures { Makes (R.meaning voting.now.rule.now) voting.now.characters (λ S x. is_mixed S x && ample_by S.rule (speaks x kind)) self.now result }
+        ensures { Makes voting.now (λ S x. is_mixed S x && ample_by S.rule (speaks x kind)) self.now result }
     {
         ample(voting.rule, self.first[kind as usize - 1].all) && self.mixed(voting)
     }

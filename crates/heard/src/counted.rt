@@ -43,6 +43,7 @@ impl Heard {
         }
     }
 
+    // The step on the sets alone. Tried as a part of `note`: `search` did not prove it of a history there.
     fn put(&mut self, vote: Vote)
         requires { InRange vote }
         ensures { self.new ≡ noted self.old vote }

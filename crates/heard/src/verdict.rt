@@ -23,7 +23,7 @@ impl Heard {
     // What is decided at grade 1: if mixed and all senders of kind 5 are ample, the lowest backed character.
     #[tactic(auto, using(crate::proofs::Tested::held_made))]
     fn held<R: FailureRule>(&self, voting: &Voting<R>) -> Option<Decision>
-        ensures { Makes (R.meaning voting.now.rule.now) voting.now.characters (λ S x. cond (is_mixed S x && ample_by S.rule (speaks x 5)) (decides 1 (lowest S (backed S x))) None) self.now result }
+        ensures { Makes voting.now (λ S x. cond (is_mixed S x && ample_by S.rule (speaks x 5)) (decides 1 (lowest S (backed S x))) None) self.now result }
     {
         if !self.late(voting, 5) {
             return None;
@@ -35,7 +35,7 @@ impl Heard {
     }
 
     pub fn verdict<R: FailureRule>(&self, voting: &Voting<R>) -> Option<Decision>
-        ensures { Makes (R.meaning voting.now.rule.now) voting.now.characters (λ S. verdict_of S Two) self.now result }
+        ensures { Makes voting.now (λ S. verdict_of S Two) self.now result }
     {
         let full = decision(2, lowest_shared(voting, &self.first[4], 1));
         let nothing = ample(voting.rule, self.first[4].values[0]).then_some(NOTHING);

@@ -8,6 +8,7 @@ use Rattle.vote.specs.declared.Depth.TheVariants.{One, Two}
 use Rattle.vote.specs.declared.News.{News}
 use Rattle.vote.specs.declared.Vote.{Vote}
 use Rattle.vote.specs.Search.{is}
+use Rattle.vote.proofs.Options.{is_found}
 use Rattle.vote.specs.Setting.{Setting}
 use Rattle.agreement.specs.Plain.{branch, branch_posted, posts, decided, plain}
 use Rattle.vote.specs.News.{news_of}
@@ -43,11 +44,7 @@ module _ (S : Setting) where
   -- ---- words that are posted
   posted_branch : (h : List Vote) (d : Depth) (v : ℕ) → is v (branch_posted S d h) ≡ true → (branch S h ≡ Some v) × (d ≡ Two)
   posted_branch h One v t = absurd (false≢true t)
-  posted_branch h Two v t = (is_held v (branch S h) t, refl)
-    where
-      is_held : (v : ℕ) (o : Option ℕ) → is v o ≡ true → o ≡ Some v
-      is_held v None t = absurd (false≢true t)
-      is_held v (Some b) t = ap {B = Option ℕ} Some (sym (eqb-true v b t))
+  posted_branch h Two v t = (is_found v (branch S h) t, refl)
 
   more_posted : (start : ℕ) (h : List Vote) (w : Vote) (c v : ℕ) → posts S start h c v ≡ true → posts S start (w ∷ h) c v ≡ true
   unfolding posts

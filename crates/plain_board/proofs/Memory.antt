@@ -15,10 +15,10 @@ use Rattle.vote.specs.Search.{or_else, when, given}
 use Rattle.vote.specs.Setting.{Setting, decision_on, lowest}
 use Rattle.agreement.specs.Plain.{all_say, some_says, branch_found, branch, compared, decision_found, decided}
 use Rattle.plain_board.specs.Read.{common_of, verdict_on}
+use Rattle.vote.proofs.Counting.{first_other}
 use Rattle.vote.proofs.Options.{else_cases}
 use Rattle.vote.proofs.Seeking.{set_of_none}
 use Rattle.plain_board.proofs.Reading.{found_low}
-use Rattle.plain_board.proofs.Tallies.{first_other}
 
 -- ---- options
 or_nothing : {A : Type 0} (o p : Option A) → or_else o p ≡ None → (o ≡ None) × (p ≡ None)
@@ -140,7 +140,7 @@ module _ (S : Setting) where
 
   pub branch_waits : Lawful S.rule → 1 ≤ S.rule.cover → (w : Vote) (h : List Vote) → (w.kind ≡ 1 → ⊥) → branch S h ≡ None → branch S (w ∷ h) ≡ None
   branch_waits law low w h ne e =
-      branch_step w h ∙ ap₂ or_else e (branch_reads (w ∷ h) ∙ ap branch_by (first_other h w 1 ne) ∙ sym (branch_reads h) ∙ waits law low h e)
+      branch_step w h ∙ ap₂ or_else e (branch_reads (w ∷ h) ∙ ap branch_by (first_other w h 1 ne) ∙ sym (branch_reads h) ∙ waits law low h e)
 
   -- the decision of a board that had none, with a branch
   pub decision_next : (w : Vote) (h : List Vote) (b : ℕ) → branch S (w ∷ h) ≡ Some b → decided S h ≡ None → decided S (w ∷ h) ≡ verdict_on S S.depth b (seen (w ∷ h))
@@ -153,7 +153,7 @@ module _ (S : Setting) where
 
   pub decision_waits : (w : Vote) (h : List Vote) (b : ℕ) → (w.kind ≡ 2 → ⊥) → branch S h ≡ Some b → decided S h ≡ None → decided S (w ∷ h) ≡ None
   decision_waits w h b ne e q =
-      decision_next w h b (branch_stays w h b e) q ∙ verdict_same S.depth b (seen (w ∷ h)) (seen h) (first_other h w 2 ne) ∙ no_verdict h b e q
+      decision_next w h b (branch_stays w h b e) q ∙ verdict_same S.depth b (seen (w ∷ h)) (seen h) (first_other w h 2 ne) ∙ no_verdict h b e q
 
   -- a decision was found at some time, with the branch of that time
   pub decided_when : (h : List Vote) (y : Decision) → decided S h ≡ Some y → (g : List Vote) × (b : ℕ) × (branch S g ≡ Some b) × (verdict_on S S.depth b (seen g) ≡ Some y)

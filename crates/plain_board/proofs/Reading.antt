@@ -1,18 +1,18 @@
 -- What the sets of a tally say of the votes that it shows. Assumes nothing.
-use Rattle.std.proofs.Common.{◌≡◌, ℕ, zero, suc, ◌≤◌, Bool, true, cond, not, ◌&&◌, eqb, get_or, Some, None, Option, unwrap_or, sym, refl, ap, ◌∙◌, ap₂, zero-le, arith}
-use Rattle.std.proofs.lemmas.Bool.{false≢true}
+use Rattle.std.proofs.Common.{◌≡◌, ℕ, zero, suc, ◌≤◌, Bool, cond, not, ◌&&◌, eqb, get_or, Some, None, Option, unwrap_or, sym, refl, ap, ◌∙◌, ap₂, zero-le, arith}
 use Rattle.quorum.specs.Rules.{ample, ample_by}
 use Rattle.quorum.specs.Sets.{set_of}
 use Rattle.vote.specs.declared.Decision.{Decision}
 use Rattle.vote.specs.declared.Depth.{Depth}
 use Rattle.vote.specs.declared.Depth.TheVariants.{One, Two}
 use Rattle.vote.specs.History.{Seen, says, speaks}
-use Rattle.vote.specs.Search.{given, is, seek, when}
+use Rattle.vote.specs.Search.{seek, when}
 use Rattle.vote.specs.Setting.{Setting, decision_on, lowest}
 use Rattle.agreement.specs.Plain.{all_say, some_says, compared}
 use Rattle.heard.specs.declared.tally.Tally.{Tally}
 use Rattle.plain_board.specs.Shown.{tally_of, stage_of}
 use Rattle.plain_board.specs.Read.{agreed, common_of, least_of, verdict_on}
+use Rattle.vote.proofs.Options.{is_given}
 use Rattle.vote.proofs.Seeking.{seek_found, seek_ext, some_in}
 use Rattle.heard.proofs.Read.{tally_all, tally_value}
 use Rattle.plain_board.proofs.Masks.{all_in}
@@ -28,10 +28,6 @@ past_zero p v = not (eqb v 0) && p v
 pub found_low : (k : ℕ) (p : ℕ → Bool) (o : Option ℕ) → o ≡ seek (suc k) p → unwrap_or o 0 ≤ k
 found_low k p None e = zero-le
 found_low k p (Some v) e = let l = (seek_found (suc k) p v (sym e)).0 in omega arith
-
-is_given : (v : ℕ) (o : Option ℕ) → is v o ≡ true → given o ≡ true
-is_given v None h = absurd (false≢true h)
-is_given v (Some u) h = refl
 
 module _ (S : Setting) (x : Seen) (c : ℕ) (t : Tally) (e : t ≡ tally_of S.rule.crew x c) where
   pub all_at : t.all ≡ set_of S.rule.crew (speaks x c)

@@ -1,11 +1,11 @@
 -- A tally with nobody in it, with one sender more, and after a word of another kind. Assumes nothing.
 use Rattle.std.proofs.Common.{◌≡◌, ℕ, ◌≤◌, eqb, List, [], ◌∷◌, None, sym, refl, ap, ◌∙◌}
 use mathlib.Core.Path.{fun_ext}
-use Rattle.std.proofs.lemmas.Bool.{eq-eqb, ne_eqb}
+use Rattle.std.proofs.lemmas.Bool.{eq-eqb}
 use Rattle.vote.specs.declared.Vote.{Vote}
 use Rattle.vote.specs.Search.{or_else, when}
 use Rattle.vote.specs.History.{seen, first}
-use Rattle.vote.proofs.Options.{else_none}
+use Rattle.vote.proofs.Counting.{first_other}
 use Rattle.heard.specs.declared.tally.Tally.{Tally}
 use Rattle.heard.specs.Masks.{added}
 use Rattle.heard.specs.Shown.{tally_of as tally_in}
@@ -23,12 +23,8 @@ module _ (h : List Vote) (w : Vote) where
   unfolding first
   first_same = fun_ext (λ i. rw (eq-eqb w.kind w.kind refl))
 
-  pub first_other : (c : ℕ) → (w.kind ≡ c → ⊥) → first (w ∷ h) c ≡ first h c
-  unfolding first
-  first_other c ne = fun_ext (λ i. rw (ne_eqb w.kind c ne) (sym (else_none (first h c i))))
-
   pub tally_other : (n c : ℕ) → (w.kind ≡ c → ⊥) → tally_of n (seen (w ∷ h)) c ≡ tally_of n (seen h) c
-  tally_other n c ne = ap (tally_in n) (first_other c ne)
+  tally_other n c ne = ap (tally_in n) (first_other w h c ne)
 
 pub adds : (w : Vote) → w.value ≤ 8 → (t u : Tally) → u ≡ added t w.value w.sender → Adds w t u
 adds w low t u e = λ n h inside fresh f.

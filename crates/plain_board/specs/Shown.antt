@@ -5,7 +5,7 @@ use Rattle.vote.specs.declared.Vote.{Vote}
 use Rattle.vote.specs.History.{Seen, seen}
 use Rattle.vote.specs.Setting.{Setting}
 use Rattle.agreement.specs.Plain.{branch, decided}
-pub use Rattle.heard.specs.Shown.{setting}
+pub use Rattle.heard.specs.Shown.{setting, setting_in}
 use Rattle.heard.specs.Shown.{tally_of as tally_in}
 use Rattle.heard.specs.declared.tally.Tally.{Tally}
 use Rattle.plain_board.specs.declared.stage.Stage.{Stage}

@@ -4,7 +4,7 @@ ghost use Rattle.vote.specs.History.{Seen};
 ghost use Rattle.vote.specs.Setting.{Setting};
 ghost use Rattle.agreement.specs.Plain.{compared as compared_with};
 ghost use Rattle.plain_board.specs.Limits.{max_value};
-ghost use Rattle.plain_board.specs.Shown.{setting, tally_of};
+ghost use Rattle.plain_board.specs.Shown.{setting_in, tally_of};
 ghost use Rattle.plain_board.specs.Read.{StageOn};
 
 use crate::stage::Stage;
@@ -27,15 +27,13 @@ fn compared<R: FailureRule>(voting: &Voting<R>, second: &Tally, branch: u8) -> D
 
 // The stage of a board with the branch, by the senders of kind 2 that it has counted.
 pub(crate) fn stage_on<R: FailureRule>(voting: &Voting<R>, branch: u8, second: &Tally) -> Stage
-    ensures { StageOn (setting (R.meaning voting.now.rule.now) voting.now.characters voting.now.depth) branch second.now result }
+    ensures { StageOn (setting_in voting.now) branch second.now result }
 {
     match voting.depth {
         Depth::One => Stage::Decided(branch, Decision::graded(1, branch)),
-        Depth::Two => {
-            if ample(voting.rule, second.all) {
-                return Stage::Decided(branch, compared(voting, second, branch));
-            }
-            Stage::Comparing(branch)
+        Depth::Two if ample(voting.rule, second.all) => {
+            Stage::Decided(branch, compared(voting, second, branch))
         }
+        Depth::Two => Stage::Comparing(branch),
     }
 }

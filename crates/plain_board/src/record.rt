@@ -6,7 +6,7 @@ ghost use Rattle.vote.specs.Setting.{Setting};
 ghost use Rattle.agreement.specs.Plain.{branch as branch_by, decided as decided_by, posts};
 ghost use Rattle.plain_board.specs.Limits.{max_value};
 ghost use Rattle.plain_board.specs.Marks.{PlainMarks};
-ghost use Rattle.plain_board.specs.Shown.{setting, record_of};
+ghost use Rattle.plain_board.specs.Shown.{setting_in, record_of};
 ghost use Rattle.plain_board.specs.Step.{repeats as repeats_in, Counts};
 
 use crate::outcome::stage_on;
@@ -61,23 +61,18 @@ impl PlainRecord {
         }
     }
 
-    // Whether a board that started with the character has posted the word.
+    // Whether a board that started with the character has posted the word. The kind stays a number, as in a Vote: posted is said of all numbers.
     pub fn has_posted(&self, depth: Depth, start: u8, kind: u8, value: u8) -> bool
         ensures { (S : Setting) (h : List Vote) → S.depth ≡ depth → self.now ≡ record_of S h → result ≡ posts S start h kind value }
     {
-        if kind == 1 {
-            return value == start;
-        }
-        if kind != 2 {
-            return false;
-        }
-        match depth {
-            Depth::One => false,
-            Depth::Two => self.branch() == Some(value),
+        match (kind, depth) {
+            (1, _) => value == start,
+            (2, Depth::Two) => self.branch() == Some(value),
+            _ => false,
         }
     }
 
-    // Whether a word of this kind and sender has been counted.
+    // Whether a word of this kind, a number as in a Vote, and sender has been counted.
     fn repeats(&self, vote: Vote) -> bool
         requires { (vote.sender < max_crew) × ((1 ≤ vote.kind) × (vote.kind ≤ 2)) }
         ensures { (S : Setting) (h : List Vote) → vote.sender < S.rule.crew → self.now ≡ record_of S h → result ≡ repeats_in h vote }
@@ -94,8 +89,8 @@ impl PlainRecord {
         requires sender_lt_max_crew { (vote.sender < max_crew) × (vote.sender < (R.meaning voting.now.rule.now).crew) }
         requires le_kind { (1 ≤ vote.kind) × (vote.kind ≤ 2) }
         requires value_le_max_value { vote.value ≤ max_value }
-        ensures shows { Counts (setting (R.meaning voting.now.rule.now) voting.now.characters voting.now.depth) vote self.old self.new result }
-        ensures marks { PlainMarks (setting (R.meaning voting.now.rule.now) voting.now.characters voting.now.depth) }
+        ensures shows { Counts (setting_in voting.now) vote self.old self.new result }
+        ensures marks { PlainMarks (setting_in voting.now) }
     {
         if self.repeats(vote) {
             return None;

@@ -1,10 +1,11 @@
 -- What is counted only grows, and a first vote is one that is counted. Assumes nothing.
 use Rattle.std.proofs.Common.{◌≡◌, ℕ, true, ◌&&◌, eqb, List, [], ◌∷◌, Some, sym, ⊎_elim}
-use Rattle.std.proofs.lemmas.Bool.{false≢true, and_parts, and_from, or_cases, or_left, or_right, eqb-true, eq-eqb}
+use mathlib.Core.Path.{fun_ext}
+use Rattle.std.proofs.lemmas.Bool.{false≢true, and_parts, and_from, or_cases, or_left, or_right, eqb-true, eq-eqb, ne_eqb}
 use Rattle.vote.specs.declared.Vote.{Vote}
 use Rattle.vote.specs.History.{seen, of_kind, counted, first, says, speaks}
 use Rattle.vote.specs.Search.{given}
-use Rattle.vote.proofs.Options.{given_found, given_from, is_found, is_from, holds_none, else_cases, else_left, else_right, else_keeps, when_found, when_from}
+use Rattle.vote.proofs.Options.{given_found, given_from, is_found, is_from, holds_none, else_cases, else_left, else_right, else_keeps, else_none, when_found, when_from}
 
 -- ---- one vote more
 pub counted_more : (w : Vote) (h : List Vote) (c v i : ℕ) → counted h c v i ≡ true → counted (w ∷ h) c v i ≡ true
@@ -14,6 +15,11 @@ counted_more w h c v i p = or_left (counted h c v i) _ p
 pub first_more : (w : Vote) (h : List Vote) (c i v : ℕ) → first h c i ≡ Some v → first (w ∷ h) c i ≡ Some v
 unfolding first
 first_more w h c i v p = else_keeps _ p
+
+-- a vote of another kind is no first vote
+pub first_other : (w : Vote) (h : List Vote) (c : ℕ) → (w.kind ≡ c → ⊥) → first (w ∷ h) c ≡ first h c
+unfolding first
+first_other w h c ne = fun_ext (λ i. rw (ne_eqb w.kind c ne) (sym (else_none (first h c i))))
 
 pub says_more : (w : Vote) (h : List Vote) (c v i : ℕ) → says (seen h) c v i ≡ true → says (seen (w ∷ h)) c v i ≡ true
 says_more w h c v i p = is_from v (first_more w h c i v (is_found v _ p))

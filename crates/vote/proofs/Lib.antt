@@ -2,3 +2,4 @@ pub mod Options
 pub mod Seeking
 pub mod Memories
 pub mod Counting
+pub mod Grades

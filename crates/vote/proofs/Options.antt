@@ -18,6 +18,10 @@ pub is_found : (v : ℕ) (o : Option ℕ) → is v o ≡ true → o ≡ Some v
 is_found v None h = absurd (false≢true h)
 is_found v (Some u) h = ap {B = Option ℕ} Some (sym (eqb-true v u h))
 
+pub is_given : (v : ℕ) (o : Option ℕ) → is v o ≡ true → given o ≡ true
+is_given v None h = absurd (false≢true h)
+is_given v (Some u) h = refl
+
 pub is_from : (v : ℕ) {o : Option ℕ} → o ≡ Some v → is v o ≡ true
 is_from v p = rw p (eq-eqb v v refl)
 

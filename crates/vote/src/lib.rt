@@ -24,7 +24,7 @@ pub struct Vote {
 }
 
 // A character with a grade from 1 to the depth, or (0, 0) for no character.
-// It stays no Option: to decide for no character is a decision, and what is decided is told as these two numbers.
+// It stays no Option: to decide for no character is a decision, and the replies of a session and the lines of a benchmark tell what is decided as these two numbers.
 #[derive(Clone, Copy, PartialEq, Eq, Debug)]
 pub struct Decision {
     pub value: u8,

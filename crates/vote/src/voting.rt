@@ -31,6 +31,7 @@ impl<'a, R: FailureRule> Voting<'a, R> {
         requires { (v : ℕ) → v ≤ self.now.characters → F.pre passes v }
         ensures { (p : ℕ → Bool) → ((v : ℕ) (b : Bool) → v ≤ self.now.characters → F.post passes v b → b ≡ p v) → result ≡ seek (suc self.now.characters) p }
     {
+        // Tried with `..=`: the library says by numbers what `find` meets in a Range, but of no RangeInclusive, so the proof did not close.
         (0..self.characters + 1).find(
             |&v|
                 requires { F.pre passes v }

@@ -2,7 +2,7 @@
 use Rattle.std.proofs.Common.{◌≡◌, false, ◌∷◌, sym, ◌∙◌, arith}
 use Rattle.vote.specs.History.{seen}
 use Rattle.heard.specs.Repeats.{repeats}
-use Rattle.heard.specs.Shown.{setting, heard_of}
+use Rattle.heard.specs.Shown.{setting_in, heard_of}
 use Rattle.echo_board.proofs.Facts.{board_keeps}
 use Rattle.echo_board.proofs.Memory.{heard_in}
 use Rattle.echo_board.proofs.Step.{step_repeat, step_new}
@@ -10,7 +10,7 @@ use Rattle.echo_board.proofs.board.EchoRecord.count.Goals as goal
 
 pub returns-then-repeats : goal.returns-then-repeats
 returns-then-repeats g c =
-    let S = setting (g.R.FailureRule.meaning c.args.voting.now.rule.now) c.args.voting.now.characters c.args.voting.now.depth in
+    let S = setting_in c.args.voting.now in
     record {
       counts = λ s h e.
           step_repeat S s h c.args.vote c.args.self.now e
@@ -20,7 +20,7 @@ returns-then-repeats g c =
 
 pub returns : goal.returns
 returns g c =
-    let S = setting (g.R.FailureRule.meaning c.args.voting.now.rule.now) c.args.voting.now.characters c.args.voting.now.depth in
+    let S = setting_in c.args.voting.now in
     record {
       counts = λ s h e.
           let shown = heard_in S s h c.args.self.now e in

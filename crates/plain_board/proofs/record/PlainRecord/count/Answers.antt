@@ -1,6 +1,6 @@
 -- From each stage, by the word's kind. Assumes nothing.
 use Rattle.std.proofs.Common.{◌≤◌, sym, ◌∙◌, arith}
-use Rattle.plain_board.specs.Shown.{setting}
+use Rattle.plain_board.specs.Shown.{setting_in}
 use Rattle.plain_board.specs.Step.{Counts}
 use Rattle.plain_board.specs.Marks.{PlainMarks}
 use Rattle.plain_board.proofs.Kept.{marks_hold}
@@ -13,31 +13,29 @@ pub returns-then-repeats : goal.returns-then-repeats
 unfolding Counts PlainMarks
 returns-then-repeats g c = record {
   shows = λ h low e.
-      let S = setting (g.R.FailureRule.meaning c.args.voting.now.rule.now) c.args.voting.now.characters c.args.voting.now.depth in
+      let S = setting_in c.args.voting.now in
       again S c.args.vote h c.args.self.now e (sym (c.repeats.ensures S h (omega arith) e) ∙ c.if-repeats.true);
-  marks = marks_hold (setting (g.R.FailureRule.meaning c.args.voting.now.rule.now) c.args.voting.now.characters c.args.voting.now.depth);
+  marks = marks_hold (setting_in c.args.voting.now);
 }
 
 pub returns-then-ample : goal.returns-then-ample
 unfolding Counts PlainMarks
 returns-then-ample g c = record {
   shows = λ h low e.
-      let R = g.R.FailureRule.meaning c.args.voting.now.rule.now in
-      let S = setting R c.args.voting.now.characters c.args.voting.now.depth in
+      let S = setting_in c.args.voting.now in
       let few : c.common-branch.result ≤ 8 = omega (arith, c.common-branch.ensures.low) in
       let fresh = sym (c.repeats.ensures S h (omega arith) e) ∙ c.if-repeats.false in
       first_fixes S c.args.vote h c.args.self.now e (omega arith) fresh c.in-Gathering-eq1.is-0 c.on_branch.result
       c.in-Gathering-eq1.is-1 c.add.new.self (adds c.args.vote (omega arith) _ _ c.add.ensures) c.if-ample.ensures.value
       c.common-branch.result few c.common-branch.ensures.value c.stage_on-self.result c.stage_on-self.ensures c.on_branch.ensures;
-  marks = marks_hold (setting (g.R.FailureRule.meaning c.args.voting.now.rule.now) c.args.voting.now.characters c.args.voting.now.depth);
+  marks = marks_hold (setting_in c.args.voting.now);
 }
 
 pub returns : goal.returns
 unfolding Counts PlainMarks
 returns g c = record {
   shows = λ h low e.
-      let R = g.R.FailureRule.meaning c.args.voting.now.rule.now in
-      let S = setting R c.args.voting.now.characters c.args.voting.now.depth in
+      let S = setting_in c.args.voting.now in
       let fresh = sym (c.repeats.ensures S h (omega arith) e) ∙ c.if-repeats.false in
       elim c.match-self.branch [
         | in-Gathering-eq1+else-ample w ↦
@@ -65,5 +63,5 @@ returns g c = record {
             (second_after S c.args.vote h c.args.self.now e (omega arith) fresh _ _ w.in-Decided-default.is-0 c.none.result c.none.ensures
             (omega arith) w.add-in-Decided-default.new.self (adds c.args.vote (omega arith) _ _ w.add-in-Decided-default.ensures))
       ];
-  marks = marks_hold (setting (g.R.FailureRule.meaning c.args.voting.now.rule.now) c.args.voting.now.characters c.args.voting.now.depth);
+  marks = marks_hold (setting_in c.args.voting.now);
 }
