@@ -6,11 +6,8 @@ ghost use Rattle.wire.specs.Fields.{is_within};
 
 use crate::fault::BoardFault;
 use quorum::{FailureRule, MAX_COVER, MAX_CREW, MIN_COVER};
-use vote::{Depth, Method};
-
-const MAX_ID: u32 = wire::MAX_ID as u32;
-
-const MAX_CHARACTERS: u32 = wire::MAX_VALUE as u32;
+use vote::{Depth, MAX_CHARACTERS, Method};
+use wire::MAX_ID;
 
 // The echo method needs a cover of 3.
 const ECHO_COVER: u8 = 3;
@@ -46,7 +43,7 @@ pub fn kept_vote<R: FailureRule>(
     if !(1..=MAX_CREW).contains(&rule.crew()) {
         return Err(BoardFault::Crew);
     }
-    if !(1..=MAX_CHARACTERS).contains(&characters) {
+    if !(1..=u32::from(MAX_CHARACTERS)).contains(&characters) {
         return Err(BoardFault::Characters);
     }
     let depth = Depth::try_from(depth).map_err(|_| BoardFault::Depth)?;
@@ -64,7 +61,7 @@ pub fn kept_vote<R: FailureRule>(
 pub fn kept_address(group: u32, change: u32) -> Result<(u16, u16), BoardFault>
     ensures { MatchResult result (λ a. (address_fault group change ≡ None) × (a.0 ≡ group) × (a.1 ≡ change)) (λ e. address_fault group change ≡ Some e) }
 {
-    let ids = 1..=MAX_ID;
+    let ids = 1..=u32::from(MAX_ID);
     if !ids.contains(&group) || !ids.contains(&change) {
         return Err(BoardFault::Address);
     }

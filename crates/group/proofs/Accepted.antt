@@ -1,4 +1,4 @@
--- What an accepted opening settles: good terms, and records of boards that have counted nothing. Assumes nothing.
+-- What an accepted opening settles: good terms, and records of which no board has started. Assumes nothing.
 use Rattle.std.proofs.Common.{◌≡◌, ℕ, zero, suc, ◌<◌, ◌≤◌, Bool, true, not, ◌&&◌, ltb, leb, List, [], ◌∷◌, length, get_or, take, replicate, None, sym, refl, ap, ◌∙◌, subst, ⊎_elim, arith}
 use Rattle.std.proofs.lemmas.List.FromFn.{length-map-range_with_len}
 use Rattle.std.proofs.lemmas.Bool.{and_parts, and_from, eq-eqb, cond-true, cond-false, ltb-false, le-leb, lt-ltb, le-ltb, not-true, cases_lt}
@@ -24,9 +24,9 @@ use Rattle.group.specs.Sound.{all_characters, sound_terms}
 use Rattle.group.proofs.Numbers.{character_at}
 
 -- ---- tests of a list, place by place
-list_all_from : (p : ℕ → Bool) (xs : List ℕ) → ((i : ℕ) → i < length xs → p (get_or xs i 0) ≡ true) → list_all p xs ≡ true
-list_all_from p [] f = refl
-list_all_from p (x ∷ xs) f = and_from _ _ (f 0 (omega arith)) (list_all_from p xs (λ i l. f (suc i) (omega (arith, l))))
+all_pass_from : (p : ℕ → Bool) (xs : List ℕ) → ((i : ℕ) → i < length xs → p (get_or xs i 0) ≡ true) → list_all p xs ≡ true
+all_pass_from p [] f = refl
+all_pass_from p (x ∷ xs) f = and_from _ _ (f 0 (omega arith)) (all_pass_from p xs (λ i l. f (suc i) (omega (arith, l))))
 
 taken_at : (n i : ℕ) (xs : List ℕ) → i < n → n ≤ length xs → (get_or (take n xs) i 0 ≡ get_or xs i 0) × (i < length (take n xs))
 taken_at zero i xs l m = absurd (omega (arith, l))
@@ -56,7 +56,7 @@ module _ (n : ℕ) (o : Opening) (good : GoodOpening n o) where
       (and_from _ _ (within_from 1 65535 o.group good.group_low good.group_high)
       (and_from _ _ (within_from 1 65535 o.change good.change_low good.change_high)
       (and_from _ _ (eq-eqb _ _ len)
-      (list_all_from (is_within 1 o.characters) ss (λ i l.
+      (all_pass_from (is_within 1 o.characters) ss (λ i l.
       ap (λ (xs : List ℕ). is_within 1 o.characters (get_or xs i 0)) is ∙ ap (is_within 1 o.characters) (table_at 16 (kept_start n o.starts) i 0 (omega (arith, l, len))) ∙ kept_fits i)))))
 
   -- as they are kept
