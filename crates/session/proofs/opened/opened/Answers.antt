@@ -1,5 +1,6 @@
 use Rattle.std.proofs.Common.{◌≡◌, ℕ, ◌≤◌, [], None, Some, sym, ap, ◌∙◌, subst}
 use Rattle.std.proofs.lemmas.Result.{err_from_is_err_and}
+use Rattle.std.specs.Option.{option_map}
 use Rattle.std.specs.Result.{result_err}
 use Rattle.lines.specs.Told.{opening_of}
 use Rattle.quorum.specs.Meaning.{either_rule}
@@ -7,7 +8,8 @@ use Rattle.quorum.specs.Rules.{Rule}
 use Rattle.wire.proofs.FrameText.{within_parts}
 use Rattle.group.specs.Opening as group
 use Rattle.group.specs.Promises.{Reached}
-use Rattle.session.proofs.Openings.{lifted, sizes_some, sizes_good, rule_some, group_asked, settles}
+use Rattle.session.specs.declared.fault.SessionFault.TheVariants.{Group as OfGroup}
+use Rattle.session.proofs.Openings.{sizes_some, sizes_good, rule_some, group_asked, settles}
 use Rattle.session.proofs.opened.opened.Goals as goal
 
 pub returns-in_err-check_sizes : goal.returns-in_err-check_sizes
@@ -32,7 +34,7 @@ returns-in_err-open c =
     let p = err_from_is_err_and c.from_residual-in_err-open.result c.from_residual-in_err-open.ensures.1 in
     let none = sym c.check_sizes.ensures ∙ ap result_err c.in_ok-check_sizes.was in
     let asked = subst (λ (R : Rule). group.opening_fault R c.asked-opening.result ≡ Some c.in_err-open.field-0.0) c.in_ok-rule.ensures.1 c.in_err-open.ensures in
-    rw (p.1, p.2) (group_asked o none c.in_ok-rule.ensures.0 c.requires c.asked-opening.result c.asked-opening.ensures ∙ ap lifted asked)
+    rw (p.1, p.2) (group_asked o none c.in_ok-rule.ensures.0 c.requires c.asked-opening.result c.asked-opening.ensures ∙ ap (option_map OfGroup) asked)
 
 pub returns : goal.returns
 returns c =
@@ -43,7 +45,7 @@ returns c =
     let made = c.in_ok-open.ensures in
     let g = c.in_ok-open.field-0 in
     let asked = subst (λ (R : Rule). group.opening_fault R a ≡ None) same made.0 in (
-      group_asked o none c.in_ok-rule.ensures.0 c.requires a c.asked-opening.ensures ∙ ap lifted asked,
+      group_asked o none c.in_ok-rule.ensures.0 c.requires a c.asked-opening.ensures ∙ ap (option_map OfGroup) asked,
       record {
         rule = ap either_rule made.1 ∙ same;
         settles = settles o none c.in_ok-rule.ensures.0 c.requires a c.asked-opening.ensures g.terms (subst (λ (R : Rule). group.Settles R a g.terms) same made.2);
