@@ -1,5 +1,5 @@
 -- What stands against fitting a board, by rising number. Assumes nothing.
-use Rattle.std.specs.Prelude.{ℕ, Bool, false, cond, not, ◌&&◌, List, [], ◌∷◌, Some, None, Option, nat_lt}
+use Rattle.std.specs.Prelude.{◌≡◌, ℕ, Bool, false, cond, not, ◌&&◌, List, [], ◌∷◌, Some, None, Option, Result, MatchResult, nat_lt}
 use Rattle.quorum.specs.Rules.{Rule}
 use Rattle.vote.specs.declared.Method.{Method}
 use Rattle.vote.specs.declared.Method.TheVariants.{Plain, Echo}
@@ -45,3 +45,7 @@ vote_fault R m d k = first_failed (vote_tests R m d k)
 -- and the test of an address
 abbrev pub address_fault : ℕ → ℕ → Option BoardFault
 address_fault g c = cond (is_within 1 65535 g && is_within 1 65535 c) None (Some Address)
+
+-- What a check answers: just where nothing stands against what is asked, a value of which Q holds; else what stands against it.
+abbrev pub Judged : {X E : Type 0} → Option E → (X → Type 0) → Result X E → Type 0
+Judged fault Q r = MatchResult r (λ x. (fault ≡ None) × Q x) (λ e. fault ≡ Some e)

@@ -1,7 +1,7 @@
 // A board that is fitted and not yet started.
 ghost use Rattle.std.specs.Prelude.{◌≡◌, Some, None, MatchResult};
 ghost use Rattle.board.specs.Fitted.{Keeps};
-ghost use Rattle.board.specs.Fitting.{settings_fault};
+ghost use Rattle.board.specs.Fitting.{settings_fault, Judged};
 
 use crate::fault::BoardFault;
 use crate::fit::{Fit, Fitting};
@@ -18,7 +18,7 @@ impl Settings {
     // The settings in the sizes that a board keeps them, or what stands against them under the rule, by rising number.
     #[tactic(auto, unfolding(crate::specs::Fitting::settings_fault))]
     pub(crate) fn fitting<R: FailureRule>(&self, rule: &R) -> Result<Fitting, BoardFault>
-        ensures { MatchResult result (λ k. (settings_fault (R.meaning rule.now) self.now ≡ None) × Keeps self.now k.fit) (λ e. settings_fault (R.meaning rule.now) self.now ≡ Some e) }
+        ensures { Judged (settings_fault (R.meaning rule.now) self.now) (λ k. Keeps self.now k.fit) result }
     {
         let (depth, characters) = kept_vote(rule, self.method, self.depth, self.characters)?;
         if self.board >= u32::from(rule.crew()) {

@@ -18,17 +18,10 @@ pub enum Order {
 pub fn lamp_order(depth: Depth, decision: Decision) -> Order
     ensures { result ≡ order_of depth decision }
 {
-    if decision.value == 0 {
-        return Order::Stay;
-    }
-    match depth {
-        Depth::One => Order::Show(decision.value),
-        Depth::Two => {
-            if decision.grade == 2 {
-                Order::Show(decision.value)
-            } else {
-                Order::Load(decision.value)
-            }
-        }
+    let Decision { value, grade } = decision;
+    match (depth, value, grade) {
+        (_, 0, _) => Order::Stay,
+        (Depth::One, _, _) | (Depth::Two, _, 2) => Order::Show(value),
+        (Depth::Two, _, _) => Order::Load(value),
     }
 }

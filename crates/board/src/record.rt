@@ -8,6 +8,7 @@ use echo_board::EchoRecord;
 use plain_board::PlainRecord;
 use vote::Decision;
 
+// `start` and `has_posted` of the two records take different parameters, so a trait of both would be no plainer than a match.
 #[derive(Clone, Copy)]
 pub enum Record {
     // of the plain method

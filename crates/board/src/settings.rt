@@ -1,16 +1,13 @@
 // What a board is fitted with, and what stands against it.
-ghost use Rattle.std.specs.Prelude.{◌≡◌, true, Some, None, MatchResult};
+ghost use Rattle.std.specs.Prelude.{◌≡◌, true};
 ghost use Rattle.vote.specs.Setting.{grades};
-ghost use Rattle.board.specs.Fitting.{settings_fault, vote_fault, address_fault};
+ghost use Rattle.board.specs.Fitting.{settings_fault, vote_fault, address_fault, Judged};
 ghost use Rattle.wire.specs.Fields.{is_within};
 
 use crate::fault::BoardFault;
 use quorum::{FailureRule, MAX_COVER, MAX_CREW, MIN_COVER};
-use vote::{Depth, Method};
-
-const MAX_ID: u32 = wire::MAX_ID as u32;
-
-const MAX_CHARACTERS: u32 = wire::MAX_VALUE as u32;
+use vote::{Depth, MAX_CHARACTERS, Method};
+use wire::MAX_ID;
 
 // The echo method needs a cover of 3.
 const ECHO_COVER: u8 = 3;
@@ -41,12 +38,12 @@ pub fn kept_vote<R: FailureRule>(
     depth: u32,
     characters: u32,
 ) -> Result<(Depth, u8), BoardFault>
-    ensures { MatchResult result (λ v. (vote_fault (R.meaning rule.now) method depth characters ≡ None) × (grades v.0 ≡ depth) × (v.1 ≡ characters)) (λ e. vote_fault (R.meaning rule.now) method depth characters ≡ Some e) }
+    ensures { Judged (vote_fault (R.meaning rule.now) method depth characters) (λ v. (grades v.0 ≡ depth) × (v.1 ≡ characters)) result }
 {
     if !(1..=MAX_CREW).contains(&rule.crew()) {
         return Err(BoardFault::Crew);
     }
-    if !(1..=MAX_CHARACTERS).contains(&characters) {
+    if !(1..=u32::from(MAX_CHARACTERS)).contains(&characters) {
         return Err(BoardFault::Characters);
     }
     let depth = Depth::try_from(depth).map_err(|_| BoardFault::Depth)?;
@@ -62,9 +59,9 @@ pub fn kept_vote<R: FailureRule>(
 
 // The group and the change, in the sizes that they are kept, unless one is not of those that there are.
 pub fn kept_address(group: u32, change: u32) -> Result<(u16, u16), BoardFault>
-    ensures { MatchResult result (λ a. (address_fault group change ≡ None) × (a.0 ≡ group) × (a.1 ≡ change)) (λ e. address_fault group change ≡ Some e) }
+    ensures { Judged (address_fault group change) (λ a. (a.0 ≡ group) × (a.1 ≡ change)) result }
 {
-    let ids = 1..=MAX_ID;
+    let ids = 1..=u32::from(MAX_ID);
     if !ids.contains(&group) || !ids.contains(&change) {
         return Err(BoardFault::Address);
     }

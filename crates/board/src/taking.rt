@@ -24,15 +24,15 @@ fn kinds_used(method: Method, depth: Depth) -> u8
 fn least_value(method: Method, kind: u8) -> u8
     ensures { result ≡ least_value method kind }
 {
-    match method {
-        Method::Plain => { if kind == 1 { 1 } else { 0 } }
-        Method::Echo => 0,
+    match (method, kind) {
+        (Method::Plain, 1) => 1,
+        _ => 0,
     }
 }
 
 // The word, unless something stands against it on the port, by rising number.
 #[tactic(auto, unfolding(crate::specs::Taking::word_fault))]
-fn fitting_word(fit: &Fit, port: u8, word: Word) -> Result<Word, BoardFault>
+fn checked_word(fit: &Fit, port: u8, word: Word) -> Result<Word, BoardFault>
     ensures { result ≡ unless (word_fault fit.now port word) (Ok word) }
 {
     if word.group != fit.group || word.change != fit.change {
@@ -79,6 +79,6 @@ pub(crate) fn word_taken<R: FailureRule>(
     ensures { result ≡ word_taken (R.meaning rule.now) fit.now port bytes.now }
 {
     check_port(rule, port)?;
-    let word = read_frame(bytes).map_err(|fault| (fit.board, fault))?;
-    fitting_word(fit, port, word)
+    let word = read_frame(bytes).map_err(|fault| BoardFault::Frame(fit.board, fault))?;
+    checked_word(fit, port, word)
 }

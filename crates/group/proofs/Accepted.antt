@@ -1,5 +1,6 @@
--- What an accepted opening settles: good terms, and records of boards that have counted nothing. Assumes nothing.
+-- What an accepted opening settles: good terms, and records of which no board has started. Assumes nothing.
 use Rattle.std.proofs.Common.{◌≡◌, ℕ, zero, suc, ◌<◌, ◌≤◌, Bool, true, not, ◌&&◌, ltb, leb, List, [], ◌∷◌, length, get_or, take, replicate, None, sym, refl, ap, ◌∙◌, subst, ⊎_elim, arith}
+use Rattle.std.proofs.lemmas.List.{get_or-take, length-take-le}
 use Rattle.std.proofs.lemmas.List.FromFn.{length-map-range_with_len}
 use Rattle.std.proofs.lemmas.Bool.{and_parts, and_from, eq-eqb, cond-true, cond-false, ltb-false, le-leb, lt-ltb, le-ltb, not-true, cases_lt}
 use Rattle.quorum.specs.Rules.{Rule}
@@ -24,15 +25,9 @@ use Rattle.group.specs.Sound.{all_characters, sound_terms}
 use Rattle.group.proofs.Numbers.{character_at}
 
 -- ---- tests of a list, place by place
-list_all_from : (p : ℕ → Bool) (xs : List ℕ) → ((i : ℕ) → i < length xs → p (get_or xs i 0) ≡ true) → list_all p xs ≡ true
-list_all_from p [] f = refl
-list_all_from p (x ∷ xs) f = and_from _ _ (f 0 (omega arith)) (list_all_from p xs (λ i l. f (suc i) (omega (arith, l))))
-
-taken_at : (n i : ℕ) (xs : List ℕ) → i < n → n ≤ length xs → (get_or (take n xs) i 0 ≡ get_or xs i 0) × (i < length (take n xs))
-taken_at zero i xs l m = absurd (omega (arith, l))
-taken_at (suc n) i [] l m = absurd (omega (arith, m))
-taken_at (suc n) zero (x ∷ xs) l m = (refl, omega arith)
-taken_at (suc n) (suc i) (x ∷ xs) l m = let k = taken_at n i xs (omega (arith, l)) (omega (arith, m)) in (k.0, omega (arith, k.1))
+all_pass_from : (p : ℕ → Bool) (xs : List ℕ) → ((i : ℕ) → i < length xs → p (get_or xs i 0) ≡ true) → list_all p xs ≡ true
+all_pass_from p [] f = refl
+all_pass_from p (x ∷ xs) f = and_from _ _ (f 0 (omega arith)) (all_pass_from p xs (λ i l. f (suc i) (omega (arith, l))))
 
 -- ---- the starting characters
 module _ (n : ℕ) (o : Opening) (good : GoodOpening n o) where
@@ -56,7 +51,7 @@ module _ (n : ℕ) (o : Opening) (good : GoodOpening n o) where
       (and_from _ _ (within_from 1 65535 o.group good.group_low good.group_high)
       (and_from _ _ (within_from 1 65535 o.change good.change_low good.change_high)
       (and_from _ _ (eq-eqb _ _ len)
-      (list_all_from (is_within 1 o.characters) ss (λ i l.
+      (all_pass_from (is_within 1 o.characters) ss (λ i l.
       ap (λ (xs : List ℕ). is_within 1 o.characters (get_or xs i 0)) is ∙ ap (is_within 1 o.characters) (table_at 16 (kept_start n o.starts) i 0 (omega (arith, l, len))) ∙ kept_fits i)))))
 
   -- as they are kept
@@ -111,9 +106,9 @@ module _ (R : Rule) (o : Opening) (none : opening_fault R o ≡ None) where
           change_low = (within_parts 1 65535 o.change both.1).0;
           change_high = (within_parts 1 65535 o.change both.1).1;
           starts_fit = λ i l.
-              let t = taken_at R.crew i o.starts l (omega (arith, high, len)) in
-              let k = character_at o.characters (take R.crew o.starts) i starts.0 t.1 in
-              (subst (λ (x : ℕ). 1 ≤ x) t.0 k.0, subst (λ (x : ℕ). x ≤ o.characters) t.0 k.1);
+              let same = get_or-take R.crew o.starts i 0 l in
+              let k = character_at o.characters (take R.crew o.starts) i starts.0 (omega (arith, l, high, len, length-take-le R.crew o.starts)) in
+              (subst (λ (x : ℕ). 1 ≤ x) same k.0, subst (λ (x : ℕ). x ≤ o.characters) same k.1);
         };
         crew_fits = high;
         cover_suffices = cover_needed o.method R.cover (within_parts 2 3 R.cover cover.0).0 method.0;

@@ -1,8 +1,9 @@
 -- One board takes a frame: its record, its answer, and that its slip always fits. Assumes nothing.
-use Rattle.std.proofs.Common.{◌≡◌, ℕ, ◌*◌, ◌≤◌, true, false, List, length, Some, Option, Ok, Err, Result, MatchResult, IsErrAnd, subst, sym, ap, ◌∙◌}
+use Rattle.std.proofs.Common.{◌≡◌, ℕ, ◌*◌, ◌≤◌, true, List, length, Some, Option, Ok, Err, Result, MatchResult, IfOk, IsErrAnd, is_ok, subst, sym, ap, ap₂, ◌∙◌}
 use Rattle.std.proofs.lemmas.Bool.{false≢true}
 use Rattle.quorum.specs.Rules.{Rule, Lawful}
 use Rattle.vote.specs.declared.Vote.{Vote}
+use Rattle.wire.specs.declared.fault.FrameFault.{FrameFault}
 use Rattle.wire.specs.declared.posted.Posted.{Posted}
 use Rattle.wire.specs.Slips.{words_of}
 use Rattle.wire.proofs.Outcomes.{ok_same}
@@ -14,7 +15,9 @@ use Rattle.board.specs.Started.{Accepts, slip_of}
 use Rattle.board.specs.Taking.{vote_of}
 use Rattle.board.proofs.Six.{six_words}
 use Rattle.group.specs.declared.fault.GroupFault.{GroupFault}
+use Rattle.group.specs.declared.turn.Done.{Done}
 use Rattle.group.specs.declared.turn.Turn.{Turn}
+use Rattle.group.specs.Calls.{done_of, turn_of}
 use Rattle.group.specs.Steps.{BoardTakes}
 
 -- what is Ok once its error is mapped was Ok before
@@ -27,10 +30,15 @@ module _ (R : Rule) (f : Fit) (port : ℕ) (xs : List ℕ) (o p : Record) where
   shown_in : (h : List Vote) → ◌≡◌ {A = Option Record} (Some o) (Some (record_of R f h)) → o ≡ record_of R f h
   shown_in h e = cc
 
-  -- no slip is too long
-  pub slip_fits : (taken : Taken) (slip : Posted) (q : Option Record) (r : Result Turn GroupFault) → Accepts R f port xs o p taken slip → Lawful R → f.characters ≤ 8
-      → (length (words_of slip) * 19 ≤ 114 → false ≡ true) → BoardTakes R f port xs (Some o) q r
-  slip_fits taken slip q r (w, is, took, own) law low fits h shown =
+  -- no slip is too long, so the answer is the one that is written
+  pub board_takes : (taken : Taken) (slip : Posted) (d : Done) (s : Result Turn FrameFault) (r : Result Turn GroupFault) (Q : FrameFault → GroupFault → Type 0)
+      → Accepts R f port xs o p taken slip → Lawful R → f.characters ≤ 8 → d ≡ done_of taken
+      → IfOk s (λ t. t ≡ turn_of d slip) → (length (words_of slip) * 19 ≤ 114 → is_ok s ≡ true)
+      → MatchResult s (λ t. r ≡ Ok t) (λ e. IsErrAnd r (Q e)) → BoardTakes R f port xs (Some o) (Some p) r
+  board_takes taken slip d (Ok t) r Q (w, is, took, own) law low done value fits told h shown =
+      let k = took h (shown_in h shown) in
+      rw is (ap Some k.shows, told ∙ ap Ok (value ∙ ap₂ turn_of (done ∙ ap done_of k.tells) k.slips))
+  board_takes taken slip d (Err e) r Q (w, is, took, own) law low done value fits told h shown =
       absurd (false≢true (fits (short slip (slip_of f (answer_of R f h (vote_of w))) (took h (shown_in h shown)).slips (six_words R f law low h (vote_of w)))))
     where
       short : (p q : Posted) → p ≡ q → length (words_of q) * 19 ≤ 114 → length (words_of p) * 19 ≤ 114

@@ -17,13 +17,6 @@ use Rattle.group.proofs.Standing.{start_stands, carry_stands, forge_stands}
 abbrev pub has_record : Records → ℕ → Bool
 has_record o i = is_some (get_or o.boards i None)
 
--- the first of two tests tells
-pub first_true : (a b : Bool) → true ≡ a → true ≡ (a || b)
-first_true a b e = ap (λ x. x || b) e
-
-pub first_false : (a b : Bool) → false ≡ a → false ≡ (a && b)
-first_false a b e = ap (λ x. x && b) e
-
 module _ {R : Rule} {T : Terms} (o : Records) where
   module _ (xs : List Call) (reached : Reached R T o xs) where
     begun_is : (i : ℕ) → i < R.crew → has_record o i ≡ given (start_of (run_of R T xs) i)

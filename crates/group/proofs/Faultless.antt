@@ -5,6 +5,7 @@ use Rattle.quorum.specs.Rules.{Rule}
 use Rattle.quorum.specs.Truth.{clash}
 use Rattle.vote.specs.Search.{given}
 use Rattle.agreement.specs.Runs.{Event, start_of, posted}
+use Rattle.board.proofs.Good.{none_failed}
 use Rattle.group.specs.declared.fault.GroupFault.{GroupFault}
 use Rattle.group.specs.declared.terms.Terms.{Terms}
 use Rattle.group.specs.Calls.{start_fault, carry_fault, forge_fault}
@@ -15,10 +16,6 @@ pub none_given : {A : Type 0} (o : Option A) → given o ≡ false → o ≡ Non
 none_given None h = refl
 none_given (Some a) h = clash refl h
 
-none_failed : (b : Bool) (x : Option GroupFault) (f : GroupFault) → given (cond b x (Some f)) ≡ false → (b ≡ true) × (given x ≡ false)
-none_failed true x f e = (refl, e)
-none_failed false x f e = clash refl e
-
 module _ (R : Rule) (T : Terms) (r : List Event) where
   pub record MayStart (i : ℕ) : Type 0 where
     pub honest : Honest R T i
@@ -27,7 +24,7 @@ module _ (R : Rule) (T : Terms) (r : List Event) where
   pub may_start : (i : ℕ) → given (start_fault R T r i) ≡ false → MayStart i
   unfolding start_fault
   may_start i e =
-      let inside = none_failed (ltb i R.crew) _ _ e in
+      let inside = none_failed (ltb i R.crew) _ _ (none_given _ e) in
       let steady = none_failed (not (lies R T i)) _ _ inside.1 in
       let idle = none_failed (not (given (start_of r i))) _ _ steady.1 in
       record { honest = (ltb-true _ _ inside.0, not-true _ steady.0); idle = none_given _ (not-true _ idle.0) }
@@ -42,7 +39,7 @@ module _ (R : Rule) (T : Terms) (r : List Event) where
   pub may_carry : (to from c v : ℕ) → given (carry_fault R T r to from c v) ≡ false → MayCarry to from c v
   unfolding carry_fault
   may_carry to from c v e =
-      let inside = none_failed (ltb to R.crew && ltb from R.crew) _ _ e in
+      let inside = none_failed (ltb to R.crew && ltb from R.crew) _ _ (none_given _ e) in
       let steady = none_failed (not (lies R T to || lies R T from)) _ _ inside.1 in
       let begun = none_failed (given (start_of r to) && given (start_of r from)) _ _ steady.1 in
       let sent = none_failed (posted (method_in R T) r from c v) _ _ begun.1 in
@@ -66,7 +63,7 @@ module _ (R : Rule) (T : Terms) (r : List Event) where
   pub may_forge : (to from : ℕ) → given (forge_fault R T r to from) ≡ false → MayForge to from
   unfolding forge_fault
   may_forge to from e =
-      let inside = none_failed (ltb to R.crew && ltb from R.crew) _ _ e in
+      let inside = none_failed (ltb to R.crew && ltb from R.crew) _ _ (none_given _ e) in
       let steady = none_failed (not (lies R T to)) _ _ inside.1 in
       let begun = none_failed (given (start_of r to)) _ _ steady.1 in
       let liar = none_failed (lies R T from) _ _ begun.1 in

@@ -1,6 +1,6 @@
 -- Every list of calls can go on until all that the steady boards have posted is counted. Assumes nothing.
 use Rattle.std.proofs.Common.{◌≡◌, ℕ, zero, suc, ◌<◌, ◌≤◌, Bool, true, false, cond, not, ◌&&◌, ◌||◌, eqb, ltb, List, [], ◌∷◌, ◌++◌, Some, None, Option, sym, refl, ap, ap₂, ◌∙◌, subst, ⊎_elim, append_assoc, le_of_suc-le-suc, not-suc-le-zero, eq-or-lt_of_le, arith}
-use Rattle.std.proofs.lemmas.Bool.{eqb-true, eq-eqb, lt-ltb, cond_both, cond-true, cond-false, and_from}
+use Rattle.std.proofs.lemmas.Bool.{eqb-true, eq-eqb, lt-ltb, cond_both, cond-true, cond-false, and_from, and_right, false_from_ne_true}
 use Rattle.quorum.specs.Rules.{Rule, Lawful}
 use Rattle.quorum.specs.Truth.{clash}
 use Rattle.vote.specs.declared.Method.{Method}
@@ -46,10 +46,6 @@ module _ (S : Setting) (r : List Event) (i c u v : ℕ) where
   echo_one : eqb c 1 ≡ false → posted (method_of Echo S) r i c u ≡ true → posted (method_of Echo S) r i c v ≡ true → u ≡ v
   echo_one n p q = holds_one (posted_said S r i c u n p) (posted_said S r i c v n q)
 
-false_by : (b : Bool) → (b ≡ true → ⊥) → b ≡ false
-false_by true f = absurd (f refl)
-false_by false f = refl
-
 -- a word that an honest board has posted, and that is not counted of it, does not repeat another
 module _ (S : Setting) (r : List Event) (i j c v : ℕ) where
   word : Vote
@@ -59,7 +55,7 @@ module _ (S : Setting) (r : List Event) (i j c v : ℕ) where
   not_spoken : (m : Method) (C : Crew S) → Legal (method_of m S) C r → Honest (method_of m S) C i → posted (method_of m S) r i c v ≡ true → counted (history r j) c v i ≡ false
       → ((u : ℕ) → posted (method_of m S) r i c u ≡ true → posted (method_of m S) r i c v ≡ true → u ≡ v) → given (first (history r j) c i) ≡ false
   not_spoken m C lg hi p n one =
-      false_by (given (first (history r j) c i))
+      false_from_ne_true (given (first (history r j) c i))
       (λ q.
       let k = given_found _ q in
       let heard = first_counted (history r j) c i k.0 k.1 in
@@ -88,11 +84,7 @@ module _ {R : Rule} {T : Terms} (law : Lawful R) (accepted : Opened R T) where
   protocol = method_in R T
 
   honest : (i : ℕ) → Steady R T i → lies R T i ≡ false
-  honest i si = ap (λ (b : Bool). protocol.may_lie && b) si.1 ∙ none protocol.may_lie
-    where
-      none : (b : Bool) → (b && false) ≡ false
-      none true = refl
-      none false = refl
+  honest i si = and_right protocol.may_lie _ si.1
 
   after_call : (xs : List Call) (x : Call) (i : ℕ) → given (start_of (run_of R T xs) i) ≡ true → given (start_of (run_of R T (x ∷ xs)) i) ≡ true
   after_call xs x i p =

@@ -1,6 +1,6 @@
 -- The records of a run, and what one event more makes of them. Assumes nothing.
 use Rattle.std.proofs.Common.{◌≡◌, ℕ, ◌<◌, ◌≤◌, Bool, true, false, cond, ◌||◌, eqb, List, [], ◌∷◌, length, get_or, set, Ok, Err, Option, Result, Some, None, is_some, sym, refl, ap, ◌∙◌, subst, ⊎_elim, arith}
-use Rattle.std.proofs.lemmas.Bool.{cond_both, eq-eqb, ne_eqb, cases_lt, true≢false}
+use Rattle.std.proofs.lemmas.Bool.{cond_both, eq-eqb, ne_eqb, cases_lt, or_right, true≢false}
 use Rattle.std.proofs.lemmas.List.{get_or_past}
 use Rattle.std.proofs.lemmas.List.FromFn.{length-map-range_with_len}
 use Rattle.quorum.specs.Rules.{Rule}
@@ -129,11 +129,7 @@ module _ (R : Rule) (T : Terms) (r : List Event) where
   -- ---- board j starts
   start_here : (j s : ℕ) → given (start_of (starts j s ∷ r) j) ≡ true
   unfolding start_of
-  start_here j s = given_else_when (start_of r j) (eqb j j) s ∙ ap (λ (b : Bool). given (start_of r j) || b) (eq-eqb j j refl) ∙ or_true (given (start_of r j))
-    where
-      or_true : (b : Bool) → (b || true) ≡ true
-      or_true true = refl
-      or_true false = refl
+  start_here j s = given_else_when (start_of r j) (eqb j j) s ∙ or_right _ _ (eq-eqb j j refl)
 
   start_state : (j s : ℕ) → history (starts j s ∷ r) j ≡ history r j
   unfolding history

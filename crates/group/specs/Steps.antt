@@ -1,4 +1,4 @@
--- What the functions on the records of a group owe. Assumes nothing.
+-- What the steps of a group owe: what a board makes of bytes and words, and what it tells of itself. Assumes nothing.
 use Rattle.std.specs.Prelude.{◌≡◌, ℕ, ◌<◌, Bool, true, List, Some, Option, Result}
 use Rattle.quorum.specs.Rules.{Rule}
 use Rattle.vote.specs.declared.Vote.{Vote}

@@ -1,12 +1,10 @@
 // Why a group is not opened, or a call on it is refused.
 ghost use Rattle.std.specs.Prelude.{◌≡◌};
 ghost use Rattle.group.specs.Faults.{refusal_of};
-ghost use Rattle.board.specs.declared.fault.BoardFault.TheVariants.{Frame};
 ghost use Rattle.group.specs.declared.fault.GroupFault.TheVariants.{Board, Opening};
 
 use board::BoardFault;
 use refusal::Refusal;
-use wire::FrameFault;
 
 #[derive(Clone, Copy, PartialEq, Eq, Debug)]
 pub enum GroupFault {
@@ -68,14 +66,5 @@ impl From<(u8, BoardFault)> for GroupFault {
 
     fn from(e: (u8, BoardFault)) -> GroupFault {
         GroupFault::Board(e.0, e.1)
-    }
-}
-
-// What comes up from a frame that a board cannot read or write is what the board refuses.
-impl From<(u8, FrameFault)> for GroupFault {
-    ghost from_gives = { λ e r. r ≡ Board e.0 (Frame e.0 e.1) };
-
-    fn from(e: (u8, FrameFault)) -> GroupFault {
-        GroupFault::Board(e.0, BoardFault::Frame(e.0, e.1))
     }
 }

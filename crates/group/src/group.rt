@@ -55,10 +55,7 @@ impl<R: FailureRule> Group<R> {
         if kind > wire::MAX_KIND || value > wire::MAX_VALUE {
             return false;
         }
-        let Some(fitting) = self.terms.fitting(board) else {
-            return false;
-        };
-        let Some(record) = self.record(board) else {
+        let (Some(fitting), Some(record)) = (self.terms.fitting(board), self.record(board)) else {
             return false;
         };
         fitting.has_posted(record, kind as u8, value as u8)

@@ -17,7 +17,7 @@ mod turn;
 
 pub use fault::GroupFault;
 pub use group::Group;
-pub use limits::SCRATCH;
+pub use limits::{BOARDS, SCRATCH};
 pub use opening::{Opening, opening_fault};
 pub use records::Records;
 pub use terms::Terms;

@@ -1,6 +1,7 @@
 // A group is opened: its terms are settled, and no board has started.
 ghost use Rattle.std.specs.Prelude.{◌≡◌, [], if◌then◌else◌, nat_le, Some, None, MatchResult};
 ghost use Rattle.heard.specs.Shown.{table};
+ghost use Rattle.board.specs.Fitting.{Judged};
 ghost use Rattle.group.specs.Opening.{opening_fault, Settles, kept_start};
 ghost use Rattle.group.specs.Promises.{Reached};
 ghost use Rattle.group.specs.Sound.{all_characters};
@@ -45,7 +46,7 @@ impl Opening {
     // What is settled under the rule, in the sizes that a group keeps it, or what stands against it, by rising number.
     #[tactic(auto, unfolding(crate::specs::Opening::opening_fault))]
     pub(crate) fn terms<R: FailureRule>(&self, rule: &R) -> Result<Terms, GroupFault>
-        ensures { MatchResult result (λ t. (opening_fault (R.meaning rule.now) self.now ≡ None) × Settles (R.meaning rule.now) self.now t) (λ e. opening_fault (R.meaning rule.now) self.now ≡ Some e) }
+        ensures { Judged (opening_fault (R.meaning rule.now) self.now) (Settles (R.meaning rule.now) self.now) result }
     {
         let (depth, characters) = kept_vote(rule, self.method, self.depth, self.characters)?;
         let (group, change) = kept_address(self.group, self.change)?;

@@ -30,6 +30,7 @@ impl Terms {
     pub(crate) fn lies(&self, board: u16) -> bool
         ensures { (R : Rule) → result ≡ lies_in R self.now board }
     {
+        // read first: where it is read in place, the proof does not see that it has 16 bits
         let listed = self.listed;
         match self.method {
             Method::Plain => false,

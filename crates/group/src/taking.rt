@@ -25,9 +25,11 @@ fn taken<R: FailureRule>(
     };
     let (taken, slip) = fitting
         .take(rule, record, port, bytes)
-        .map_err(|fault| (board, fault))?;
-    let turn = written(taken.into(), slip).map_err(|fault| (board, fault))?;
-    Ok(turn)
+        .map_err(|fault| GroupFault::Board(board, fault))?;
+    written(taken.into(), slip).map_err(|fault| GroupFault::Board(
+        board,
+        BoardFault::Frame(board, fault),
+    ))
 }
 
 impl<R: FailureRule> Group<R> {
@@ -54,7 +56,9 @@ impl<R: FailureRule> Group<R> {
         ensures brings { Brings (R.meaning self.old.rule) self.old.terms to word self.old.records self.new.records result }
     {
         let mut frame = [0; FRAME_MAX];
-        let len = write_word(word, &mut frame).map_err(|fault| (word.sender, fault))?;
+        let len = write_word(word, &mut frame).map_err(|fault| {
+            GroupFault::Board(word.sender, BoardFault::Frame(word.sender, fault))
+        })?;
         self.take(to, word.sender, &frame[..len])
     }
 }

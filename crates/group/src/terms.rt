@@ -5,7 +5,7 @@ ghost use Rattle.group.specs.Sound.{sound_terms};
 use crate::limits::BOARDS;
 use vote::{Depth, Method};
 
-// What a board's `Fit` has too is spelled out in both: a struct of the shared numbers would be no plainer, as each use would only name one field more.
+// What a board's `Fit` has too is spelled out in both: `Fit`, `Settings` and `Opening` are public with public fields, which a struct of the shared numbers would change.
 #[derive(Clone, Copy)]
 pub struct Terms {
     pub(crate) method: Method,

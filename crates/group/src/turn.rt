@@ -7,6 +7,7 @@ use crate::limits::SCRATCH;
 use board::Taken;
 use wire::{FrameFault, SLIP_MAX, Slip};
 
+// Beside `Taken`, as a start is no frame that a board takes: with `Taken` inside, each answer would only be a name longer.
 #[derive(Clone, Copy, PartialEq, Eq, Debug)]
 pub enum Done {
     // the board has started

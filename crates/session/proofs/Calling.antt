@@ -1,5 +1,5 @@
 -- From what the group promises of a call to what the session answers. Assumes nothing.
-use Rattle.std.proofs.Common.{◌≡◌, ℕ, List, ◌∷◌, Ok, Err, Option, Result, sym, ap, ◌∙◌, subst}
+use Rattle.std.proofs.Common.{◌≡◌, ℕ, List, ◌∷◌, Some, Ok, Err, Option, Result, sym, ap, ◌∙◌, subst}
 use Rattle.quorum.specs.declared.either.EitherRule.{EitherRule}
 use Rattle.quorum.specs.Meaning.{either_rule}
 use Rattle.quorum.specs.Rules.{Rule}
@@ -15,7 +15,10 @@ use Rattle.group.specs.Promises.{Reached, Plays, PlaysAfter, TellsDecided, decid
 use Rattle.session.specs.declared.fault.SessionFault.TheVariants.{Group as OfGroup}
 use Rattle.session.specs.Opening.{rule_of}
 use Rattle.session.specs.Replies.{group_says}
-use Rattle.session.specs.Shown.{asked_of, ShowsOpen, Calls}
+use Rattle.session.specs.Shown.{asked_of, ShowsOpen, Calls, PlaysOn}
+use Rattle.session.specs.Standing.{nothing_open, stands_open}
+use Rattle.session.specs.declared.fault.SessionFault.{SessionFault}
+use Rattle.session.specs.declared.reply.Played.{Played}
 
 module _ (g h : Group EitherRule) (x : Call) (i : ℕ) (same : (h.rule ≡ g.rule) × (h.terms ≡ g.terms)) where
   plays_at : (r : Result Turn GroupFault) → Plays (either_rule g.rule) g.terms x g.records h.records r
@@ -46,3 +49,12 @@ module _ (g h : Group EitherRule) (x : Call) (i : ℕ) (same : (h.rule ≡ g.rul
         shown,
         ap (λ (k : Option Decision). Ok (record { words = t.words; decision = k })) decided ∙ ap (group_says (rule_of o) g.terms x xs i) says,
       )
+
+-- ---- the group that is open
+on_open : (b h : Group EitherRule) (x : Call) (i : ℕ) (r : Result Played SessionFault) → Calls b x i h r → PlaysOn (Some b) x i (Some h) r
+on_open b h x i r calls nothing_open s = absurd s
+on_open b h x i r calls (stands_open o xs) s = calls o xs s
+
+pub plays_on : (g : Option (Group EitherRule)) (b h : Group EitherRule) (x : Call) (i : ℕ) (r : Result Played SessionFault)
+    → g ≡ Some b → Calls b x i h r → PlaysOn g x i (Some h) r
+plays_on g b h x i r there calls = rw there (on_open b h x i r calls)

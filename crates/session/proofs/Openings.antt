@@ -1,5 +1,6 @@
 -- What it says that something, or nothing, stands against the opening of a line. Assumes nothing.
 use Rattle.std.proofs.Common.{◌≡◌, ℕ, ◌<◌, Bool, true, false, cond, not, ◌&&◌, List, length, get_or, take, Some, None, Option, sym, refl, ap, ap₂, ◌∙◌, subst}
+use Rattle.std.specs.Option.{option_map}
 use Rattle.std.proofs.lemmas.Bool.{cond-true}
 use Rattle.std.proofs.lemmas.List.{get_or-take}
 use Rattle.vote.specs.declared.Method.{Method}
@@ -11,6 +12,7 @@ use Rattle.quorum.specs.declared.fault.RuleFault.TheVariants.{Sets, WholeCrew}
 use Rattle.quorum.specs.Limits.{crew_fits, cover_fits}
 use Rattle.quorum.specs.Listing.{sets_fit, held}
 use Rattle.board.specs.declared.fault.BoardFault.TheVariants.{Start}
+use Rattle.board.proofs.Good.{none_failed}
 use Rattle.board.specs.Fitting.{echo_under_two}
 use Rattle.lines.specs.Calls.{Failing, by_count, by_sets, Opening}
 use Rattle.group.specs.declared.fault.GroupFault.{GroupFault}
@@ -25,14 +27,6 @@ use Rattle.session.specs.Opening.{cover_of, failing_rule, sets_good, crew_spared
 use Rattle.session.specs.Shown.{asked_of}
 use Rattle.session.specs.Asked.{failing_fault, rule_fault, sizes_fault, Asks}
 
-none_failed : {A : Type 0} (b : Bool) (x : Option A) (f : A) → cond b x (Some f) ≡ None → (b ≡ true) × (x ≡ None)
-none_failed true x f e = (refl, e)
-none_failed false x f e = holds_none (sym e)
-
-abbrev as_rule : Option RuleFault → Option SessionFault
-as_rule None = None
-as_rule (Some e) = Some (OfRule e)
-
 -- a fault that is told before more is asked
 same_fault : {A : Type 0} (a b d : Bool) (x : Option A) (f g h k : A)
     → cond a (cond b (cond d None (Some h)) (Some g)) (Some f) ≡ Some k → cond a (cond b (cond d x (Some h)) (Some g)) (Some f) ≡ Some k
@@ -44,8 +38,8 @@ same_fault false b d x f g h k e = e
 same_rule_fault : (a b : Bool) (x : Option SessionFault) (e : RuleFault)
     → cond a (cond b None (Some WholeCrew)) (Some Sets) ≡ Some e → cond a (cond b x (Some (OfRule WholeCrew))) (Some (OfRule Sets)) ≡ Some (OfRule e)
 same_rule_fault true true x e is = holds_none is
-same_rule_fault true false x e is = ap (λ (o : Option RuleFault). as_rule o) is
-same_rule_fault false b x e is = ap (λ (o : Option RuleFault). as_rule o) is
+same_rule_fault true false x e is = ap (option_map OfRule) is
+same_rule_fault false b x e is = ap (option_map OfRule) is
 
 cover_good : (m : Method) → cover_fits (cover_of m) ≡ true
 cover_good Plain = refl
@@ -85,12 +79,7 @@ cover_serves : (m : Method) → not (echo_under_two m (cover_of m)) ≡ true
 cover_serves Plain = refl
 cover_serves Echo = refl
 
--- a group's fault, as the session's
-abbrev pub lifted : Option GroupFault → Option SessionFault
-lifted None = None
-lifted (Some f) = Some (OfGroup f)
-
-lift_two : (t x : Bool) → cond t (cond x None (Some (OfGroup Family))) (Some (OfGroup (Against Start))) ≡ lifted (cond t (cond x None (Some Family)) (Some (Against Start)))
+lift_two : (t x : Bool) → cond t (cond x None (Some (OfGroup Family))) (Some (OfGroup (Against Start))) ≡ option_map OfGroup (cond t (cond x None (Some Family)) (Some (Against Start)))
 lift_two true true = refl
 lift_two true false = refl
 lift_two false x = refl
@@ -158,9 +147,9 @@ module _ (o : Opening) where
           ∙ (cond-true (is_within 1 65535 a.group && is_within 1 65535 a.change) _ _ (ap₂ (λ (g c : ℕ). is_within 1 65535 g && is_within 1 65535 c) asks.group asks.change)
           ∙ ap₂ (λ (t x : Bool). cond t (cond x None (Some Family)) (Some (Against Start))) starts_same (ap R.fails asks.listed))))))
 
-      pub group_asked : opening_fault o ≡ lifted (group.opening_fault (rule_of o) a)
+      pub group_asked : opening_fault o ≡ option_map OfGroup (group.opening_fault (rule_of o) a)
       unfolding further
-      group_asked = after_rule ruled ∙ (lift_two starts_good bad_fail ∙ ap lifted (sym in_group))
+      group_asked = after_rule ruled ∙ (lift_two starts_good bad_fail ∙ ap option_map OfGroup (sym in_group))
 
       pub settles : (T : Terms) → group.Settles (rule_of o) a T → group.Settles (rule_of o) (asked_of o) T
       settles T s = record {

@@ -4,7 +4,7 @@ ghost use Rattle.std.specs.Fn.{FnOnceReturnsAtMut};
 ghost use Rattle.lines.specs.Calls.{opens};
 ghost use Rattle.lines.specs.Told.{opening_of, starts_of};
 ghost use Rattle.group.specs.Calls.{Call};
-ghost use Rattle.session.specs.Shown.{Calls, MakesCall, PlaysCall, PlaysOn};
+ghost use Rattle.session.specs.Shown.{MakesCall, PlaysCall, PlaysOn};
 
 use crate::fault::SessionFault;
 use crate::opened::opened;
@@ -13,23 +13,7 @@ use group::{Group, GroupFault, Turn};
 use lines::Plan;
 use quorum::EitherRule;
 
-// Makes the call, and tells what the board that it names first has decided.
-fn called<F: FnOnce(&mut Group<EitherRule>) -> Result<Turn, GroupFault>>(
-    group: &mut Group<EitherRule>,
-    board: u16,
-    call: F,
-) -> Result<Played, SessionFault>
-    requires { F.IsAlwaysCallable call }
-    ensures { (x : Call) → MakesCall (FnOnceReturnsAtMut F.FnOnce call) x → Calls group.old x board group.new result }
-{
-    let turn = call(group)?;
-    Ok(Played {
-        words: turn.words,
-        decision: group.decided(board),
-    })
-}
-
-// The same on the group that is open.
+// Makes the call on the group that is open, and tells what the board that the call names first has decided.
 pub(crate) fn on<F: FnOnce(&mut Group<EitherRule>) -> Result<Turn, GroupFault>>(
     group: &mut Option<Group<EitherRule>>,
     board: u16,
@@ -38,10 +22,14 @@ pub(crate) fn on<F: FnOnce(&mut Group<EitherRule>) -> Result<Turn, GroupFault>>(
     requires { F.IsAlwaysCallable call }
     ensures { (x : Call) → MakesCall (FnOnceReturnsAtMut F.FnOnce call) x → PlaysOn group.old x board group.new result }
 {
-    match group {
-        None => Err(SessionFault::Group(GroupFault::NoGroup)),
-        Some(group) => called(group, board, call),
-    }
+    let group = group
+        .as_mut()
+        .ok_or(SessionFault::Group(GroupFault::NoGroup))?;
+    let turn = call(group)?;
+    Ok(Played {
+        words: turn.words,
+        decision: group.decided(board),
+    })
 }
 
 // Opens a group in the place of the one before, if there was one.

@@ -7,7 +7,7 @@ use group::GroupFault;
 use quorum::RuleFault;
 use refusal::Refusal;
 
-#[derive(Clone, Copy, PartialEq, Debug)]
+#[derive(Clone, Copy, PartialEq, Eq, Debug)]
 pub enum SessionFault {
     // no call can be read from the line
     Unreadable,

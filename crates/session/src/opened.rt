@@ -4,7 +4,7 @@ ghost use Rattle.lines.specs.Told.{opening_of, starts_of};
 ghost use Rattle.session.specs.Shown.{Opens};
 
 use crate::fault::SessionFault;
-use crate::opening::{asked, rule, sizes};
+use crate::opening::{asked, check_sizes, rule};
 use group::Group;
 use lines::Plan;
 use quorum::EitherRule;
@@ -13,9 +13,8 @@ pub(crate) fn opened(plan: &Plan) -> Result<Group<EitherRule>, SessionFault>
     requires { length (starts_of plan.now) ≡ plan.now.crew }
     ensures { Opens (opening_of plan.now) result }
 {
-    sizes(plan)?;
+    check_sizes(plan)?;
     let rule = rule(plan)?;
     let opening = asked(plan);
-    let group = Group::open(rule, &opening)?;
-    Ok(group)
+    Ok(Group::open(rule, &opening)?)
 }

@@ -9,12 +9,10 @@ ghost use Rattle.std.specs.Result.{result_err};
 
 use crate::fault::SessionFault;
 use board::BoardFault;
-use group::{GroupFault, Opening};
+use group::{BOARDS, GroupFault, Opening};
 use lines::{By, Plan};
-use quorum::{EitherRule, RuleFault};
-use vote::Method;
-
-const BOARDS: usize = 16;
+use quorum::{EitherRule, MAX_CREW, RuleFault};
+use vote::{MAX_CHARACTERS, Method};
 
 fn cover(method: Method) -> u16
     ensures { result ≡ cover_of method }
@@ -37,14 +35,14 @@ pub(crate) fn rule(plan: &Plan) -> Result<EitherRule, RuleFault>
     }
 }
 
-// What stands against the sizes: crew, characters, depth.
-pub(crate) fn sizes(plan: &Plan) -> Result<(), SessionFault>
+// Whether the sizes are good, or what stands against the first that is not: crew, characters, depth.
+pub(crate) fn check_sizes(plan: &Plan) -> Result<(), SessionFault>
     ensures { result_err result ≡ sizes_fault (opening_of plan.now) }
 {
-    if !(1..=16).contains(&plan.crew) {
+    if !(1..=u16::from(MAX_CREW)).contains(&plan.crew) {
         return Err(SessionFault::Rule(RuleFault::Crew));
     }
-    if !(1..=8).contains(&plan.characters) {
+    if !(1..=u16::from(MAX_CHARACTERS)).contains(&plan.characters) {
         return Err(SessionFault::Group(GroupFault::Opening(BoardFault::Characters)));
     }
     if !(1..=2).contains(&plan.depth) {
@@ -70,8 +68,8 @@ pub(crate) fn asked(plan: &Plan) -> Opening
 {
     Opening {
         method: plan.method,
-        depth: plan.depth as u32,
-        characters: plan.characters as u32,
+        depth: u32::from(plan.depth),
+        characters: u32::from(plan.characters),
         group: 1,
         change: 1,
         listed: plan.listed,

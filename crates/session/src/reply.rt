@@ -31,16 +31,18 @@ impl fmt::Display for Reply {
                 let Refusal { number, .. } = Refusal::from(fault);
                 write!(f, "{letter},{number},0,-,-")
             }
-            Ok(played) => {
-                let words = played.words;
-                match played.decision {
-                    None => write!(f, "{letter},0,{words},-,-"),
-                    Some(decision) => {
-                        let Decision { value, grade } = decision;
-                        write!(f, "{letter},0,{words},{value},{grade}")
-                    }
-                }
-            }
+            Ok(
+                Played {
+                    words,
+                    decision: None,
+                },
+            ) => write!(f, "{letter},0,{words},-,-"),
+            Ok(
+                Played {
+                    words,
+                    decision: Some(Decision { value, grade }),
+                },
+            ) => write!(f, "{letter},0,{words},{value},{grade}"),
         }
     }
 }

@@ -1,8 +1,9 @@
-use Rattle.std.proofs.Common.{Bool, true, false, None, ◌&&◌, ◌||◌, refl, ap₂}
+use Rattle.std.proofs.Common.{Bool, true, false, None, ◌&&◌, ◌||◌, refl, sym, ap₂}
+use Rattle.std.proofs.lemmas.Bool.{and_left, or_left}
 use Rattle.group.specs.declared.fault.GroupFault.TheVariants.{Outside, Listed, Idle, Unposted}
 use Rattle.group.specs.Calls.{carrying, run_of}
 use Rattle.group.specs.Steps.{StandsAgainst}
-use Rattle.group.proofs.Called.{carry_called, begun_inside, first_true, first_false}
+use Rattle.group.proofs.Called.{carry_called, begun_inside}
 use Rattle.group.proofs.Played.{refused, accepted, shown_run, posted_carried}
 use Rattle.group.proofs.group.Group.carry.Goals as goal
 use Rattle.group.proofs.group.Group.carry.Goals.{then-lies-via-then-lies, then-lies-via-else-lies+then-lies-2, then-not-begun-via-then-not-begun, then-not-begun-via-else-not-begun+then-not-begun-2}
@@ -19,7 +20,7 @@ returns-then-lies-clause-plays g c =
     refused (g.met.R.FailureRule.lawful c.args.self.now.rule) (carrying c.args.to c.args.from c.args.kind c.args.value) o Listed
     (λ xs reached. carry_called o xs reached c.args.to c.args.from c.args.kind c.args.value true true _ _ c.if-not-has_both.ensures.value
     (elim c.then-lies.branch [
-      | then-lies-via-then-lies w ↦ first_true _ _ (w.if-lies.ensures _)
+      | then-lies-via-then-lies w ↦ sym (or_left _ _ (sym (w.if-lies.ensures _)))
       | then-lies-via-else-lies+then-lies-2 w ↦ ap₂ (λ (a b : Bool). a || b) (w.if-lies.ensures _) (w.if-lies-2.ensures _)
     ]) refl (λ l m. refl))
 
@@ -30,7 +31,7 @@ returns-then-not-begun-clause-plays g c =
     (λ xs reached. carry_called o xs reached c.args.to c.args.from c.args.kind c.args.value true false false _ c.if-not-has_both.ensures.value
     (ap₂ (λ (a b : Bool). a || b) (c.if-lies.ensures _) (c.if-lies-2.ensures _))
     (elim c.then-not-begun.branch [
-      | then-not-begun-via-then-not-begun w ↦ first_false _ _ w.if-not-begun.ensures
+      | then-not-begun-via-then-not-begun w ↦ sym (and_left _ _ (sym w.if-not-begun.ensures))
       | then-not-begun-via-else-not-begun+then-not-begun-2 w ↦ ap₂ (λ (a b : Bool). a && b) w.if-not-begun.ensures w.if-not-begun-2.ensures
     ]) (λ l m. refl))
 

@@ -1,4 +1,5 @@
 use Rattle.std.proofs.Common.{ap, sym, option_copied, ◌∙◌, arith}
+use Rattle.std.proofs.lemmas.Option.{MatchOption-at_none, MatchOption-at_some}
 use Rattle.group.proofs.Standing.{kind_unposted, value_unposted}
 use Rattle.group.proofs.Posted.{started_there, posted_told}
 use Rattle.group.proofs.group.Group.posted.Goals as goal
@@ -13,15 +14,17 @@ returns-then-kind-gt-MAX_KIND-clause-value g c xs reached l on =
     ]
 
 pub returns-in_default-clause-value : goal.returns-in_default-clause-value
-returns-in_default-clause-value g c xs reached l on = absurd (omega (arith, l, reached.opened.crew_fits))
-
-pub returns-in_default-record-clause-value : goal.returns-in_default-record-clause-value
-returns-in_default-record-clause-value g c xs reached l on =
+returns-in_default-clause-value g c xs reached l on =
     absurd (started_there (g.met.R.FailureRule.lawful c.args.self.now.rule) reached.opened xs c.args.self.now.records reached.shown c.args.board (omega (arith, l, reached.opened.crew_fits)) on
-    (sym c.record.ensures ∙ ap option_copied c.in_default-record.is))
+    (sym c.record.ensures ∙ ap option_copied c.in_default.is-1))
+
+pub returns-in_default-2-clause-value : goal.returns-in_default-2-clause-value
+returns-in_default-2-clause-value g c xs reached l on =
+    let far = MatchOption-at_none _ _ c.in_default.is-0 c.fitting.ensures in
+    absurd (omega (arith, far, l, reached.opened.crew_fits))
 
 pub returns-clause-value : goal.returns-clause-value
 returns-clause-value g c xs reached l on =
     posted_told (g.met.R.FailureRule.lawful c.args.self.now.rule) reached.opened xs c.args.self.now.records reached.shown c.args.board c.args.kind c.args.value
-    c.in-Some-record.record.now c.in-Some.fitting.fit c.has_posted.result
-    (sym c.record.ensures ∙ ap option_copied c.in-Some-record.is) c.in-Some.ensures.1 c.has_posted.ensures
+    c.in-Some-Some.record.now c.in-Some-Some.fitting.fit c.has_posted.result
+    (sym c.record.ensures ∙ ap option_copied c.in-Some-Some.is-1) (MatchOption-at_some _ _ _ c.in-Some-Some.is-0 c.fitting.ensures).1 c.has_posted.ensures

@@ -15,7 +15,7 @@ invariant_of-result g c =
     let len : length o.starts ≡ 16 = search rules in
     record {
       sound = terms_kept c.crew-crew.result o (subst (λ (n : ℕ). GoodOpening n o) (sym c.crew-crew.ensures) ((accepted_parts R o none).numbers len)) _ _ _ c.own_starts.result
-          c.in_ok-depth.ensures.2 c.in_ok-group.ensures.1 c.in_ok-group.ensures.2 c.own_starts.ensures;
+          c.in_ok-depth.ensures.1.1 c.in_ok-group.ensures.1.0 c.in_ok-group.ensures.1.1 c.own_starts.ensures;
     }
 
 pub returns : goal.returns
@@ -30,10 +30,10 @@ returns g c =
       none,
       record {
         method = refl;
-        depth = c.in_ok-depth.ensures.1;
-        characters = c.in_ok-depth.ensures.2;
-        group = c.in_ok-group.ensures.1;
-        change = c.in_ok-group.ensures.2;
+        depth = c.in_ok-depth.ensures.1.0;
+        characters = c.in_ok-depth.ensures.1.1;
+        group = c.in_ok-group.ensures.1.0;
+        change = c.in_ok-group.ensures.1.1;
         listed = refl;
         starts = λ i l. starts_settled R.crew o good c.own_starts.result (c.own_starts.ensures ∙ ap (λ (n : ℕ). table 16 (kept_start n o.starts)) c.crew-crew.ensures) i l;
       },
