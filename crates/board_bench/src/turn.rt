@@ -22,14 +22,13 @@ pub fn turn_with(board: &mut Started<CountRule>, line: &[u8], buf: &mut [u8; SLI
     ensures turned { Turned (meant board.old.rule) board.old.fitting.fit board.old.state board.new.state result.answer result.end buf.new line.now }
     ensures within { result.end ≤ 855 }
 {
-    let Some(said) = read_said(line) else {
+    let Some((port, frame)) = read_said(line) else {
         return Turn {
             answer: Answer::Unreadable,
             end: 0,
         };
     };
-    let begins = said.begins;
-    match board.take(said.port, &line[begins..]) {
+    match board.take(port, frame) {
         Err(fault) => Turn {
             answer: Answer::Refused(fault.into()),
             end: 0,

@@ -7,7 +7,7 @@ use Rattle.vote.specs.declared.Method.TheVariants.{Plain, Echo}
 use Rattle.lines.specs.Calls.{Call, unreadable}
 use Rattle.lines.specs.Lines.{line_feed, max_line, readable, lettered, open_by_count, open_by_sets, opened_in, start_with, carry_with, forged_in, whole, body, call_by, call_in, open_by_count_letter, open_by_sets_letter, start_letter, carry_letter, forge_letter}
 use Rattle.numerals.specs.Numerals.{comma, numbers_in}
-use Rattle.lines.specs.Parts.{field_in}
+use Rattle.numerals.specs.Parts.{field_in}
 use Rattle.vote.specs.Conversions.{method_of, plain_letter, echo_letter}
 use Rattle.lines.specs.Texts.{letter_of, listed, Writes}
 use Rattle.lines.proofs.Spelling.{numbers_spelled, field_spelled}

@@ -2,7 +2,7 @@
 use Rattle.std.proofs.Common.{rules, ◌≡◌, ◌∙◌, ℕ, List, ◌∷◌, Some, None, Option, sym, ap, arith}
 use Rattle.lines.specs.Lines.{readable, carry_with}
 use Rattle.numerals.specs.Numerals.{number_in}
-use Rattle.lines.specs.Parts.{field_in}
+use Rattle.numerals.specs.Parts.{field_in}
 use Rattle.lines.proofs.Fields.{one_read, field_first, none_single, none_led, not_four}
 use Rattle.lines.proofs.numeric.carry.Goals as goal
 
