@@ -17,12 +17,10 @@ use std::io;
 use std::io::Read;
 
 fn report_sets(rt: &HostRuntime, rule: &EitherRule, input: &[u8]) -> io::Result<()> {
-    let mut rest = input;
-    // stays a loop that cuts off line by line: `split` has one part more, behind the line feed at the end
-    while let Some((line, after)) = first_line(rest) {
+    for line in input.split_inclusive(|byte| *byte == b'\n') {
+        let line = line.strip_suffix(b"\n").unwrap_or(line);
         let answer = Answer(answer_to(rule, line));
         println!(rt; "{answer}")?;
-        rest = after;
     }
     Ok(())
 }
