@@ -13,8 +13,7 @@ use Rattle.board.specs.Faults.{refusal_of}
 use Rattle.board.specs.Started.{Accepts}
 use Rattle.board.specs.Taking.{word_taken}
 use Rattle.board_bench.specs.declared.answer.Answer.{Answer}
-use Rattle.board_bench.specs.declared.answer.Answer.TheVariants.{Refused}
-use Rattle.board_bench.specs.Answers.{taken}
+use Rattle.board_bench.specs.declared.answer.Answer.TheVariants.{Refused, Taken as WasTaken}
 use Rattle.board_bench.specs.Saying.{said_in}
 use Rattle.board_bench.specs.Turns.{ByWord, BySaid, Turned}
 
@@ -28,6 +27,6 @@ module _ (R : Rule) (f : Fit) (o p : Record) (a : Answer) (n : ℕ) (buf line : 
   pub turned_refused : (e : BoardFault) → word_taken R f port xs ≡ Err e → a ≡ Refused (refusal_of e) → p ≡ o → n ≡ 0 → Turned R f o p a n buf line
   turned_refused e q told stays none = turned (Err e) q (told, stays, none)
 
-  pub turned_taken : (how : Taken) (slip : Posted) → Accepts R f port xs o p how slip → a ≡ taken how (length (words_of slip)) → n ≡ length (frames_of slip)
+  pub turned_taken : (how : Taken) (slip : Posted) → Accepts R f port xs o p how slip → a ≡ WasTaken how (length (words_of slip)) → n ≡ length (frames_of slip)
       → buf ≡ zero_filled (frames_of slip) 855 → Turned R f o p a n buf line
   turned_taken how slip takes told bytes holds = turned (Ok takes.0) takes.1 (how, slip, takes, told, bytes, holds)

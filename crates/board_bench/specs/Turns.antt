@@ -15,8 +15,7 @@ use Rattle.board.specs.Faults.{refusal_of}
 use Rattle.board.specs.Started.{Accepts}
 use Rattle.board.specs.Taking.{word_taken}
 use Rattle.board_bench.specs.declared.answer.Answer.{Answer}
-use Rattle.board_bench.specs.declared.answer.Answer.TheVariants.{Unreadable, Refused}
-use Rattle.board_bench.specs.Answers.{taken}
+use Rattle.board_bench.specs.declared.answer.Answer.TheVariants.{Unreadable, Refused, Taken as WasTaken}
 use Rattle.board_bench.specs.Saying.{said_in}
 
 -- a count rule as it is meant
@@ -31,7 +30,7 @@ module _ (R : Rule) (f : Fit) (o p : Record) (a : Answer) (n : ℕ) (buf : List 
 
   -- what is posted stands in the buffer
   abbrev pub Posts : ℕ → List ℕ → Type 0
-  Posts port xs = (how : Taken) × (slip : Posted) × Accepts R f port xs o p how slip × (a ≡ taken how (length (words_of slip))) × (n ≡ length (frames_of slip)) × (buf ≡ zero_filled (frames_of slip) 855)
+  Posts port xs = (how : Taken) × (slip : Posted) × Accepts R f port xs o p how slip × (a ≡ WasTaken how (length (words_of slip))) × (n ≡ length (frames_of slip)) × (buf ≡ zero_filled (frames_of slip) 855)
 
   abbrev pub ByWord : ℕ → List ℕ → Result Word BoardFault → Type 0
   ByWord port xs (Ok w) = Posts port xs

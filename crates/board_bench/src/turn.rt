@@ -2,7 +2,7 @@
 ghost use Rattle.std.specs.Prelude.{◌≡◌, ◌≤◌};
 ghost use Rattle.board_bench.specs.Turns.{Turned, meant};
 
-use crate::answer::{Answer, taken_with};
+use crate::answer::Answer;
 use crate::posts::written;
 use crate::said::read_said;
 use board::Started;
@@ -34,7 +34,7 @@ pub fn turn_with(board: &mut Started<CountRule>, line: &[u8], buf: &mut [u8; SLI
             end: 0,
         },
         Ok((how, slip)) => {
-            let answer = taken_with(how, slip.count());
+            let answer = Answer::Taken(how, slip.count());
             let end = written(slip, buf);
             Turn { answer, end }
         }

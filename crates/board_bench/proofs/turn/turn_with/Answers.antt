@@ -1,7 +1,6 @@
 -- The frame is what follows the comma. Assumes nothing.
 use Rattle.std.proofs.Common.{rules, ◌≡◌, Some, sym, refl, ap, ◌∙◌, arith}
-use Rattle.board_bench.specs.declared.answer.Answer.TheVariants.{Refused}
-use Rattle.board_bench.specs.Answers.{taken}
+use Rattle.board_bench.specs.declared.answer.Answer.TheVariants.{Refused, Taken}
 use Rattle.board_bench.specs.Saying.{said_in}
 use Rattle.board_bench.proofs.Turning.{turned_refused, turned_taken}
 use Rattle.board_bench.proofs.turn.turn_with.Goals as goal
@@ -21,6 +20,6 @@ returns-in-Ok c =
     record {
       same = c.take.ensures.same;
       turned = turned_taken _ _ _ _ _ _ _ c.args.line.now c.in-Some.port c.in-Some.frame.now said _ _ c.in-Ok.ensures.accepted
-          (c.taken_with-answer.ensures ∙ ap (taken c.in-Ok.how) c.count.ensures) c.written-end.ensures.value c.written-end.ensures.buffer;
+          (ap (Taken c.in-Ok.how) c.count.ensures) c.written-end.ensures.value c.written-end.ensures.buffer;
       within = c.written-end.ensures.within;
     }
