@@ -9,7 +9,8 @@ use board::Started;
 use quorum::CountRule;
 use wire::SLIP_MAX;
 
-// The end stays a number: a slice of the buffer, handed back, would end what a contract can say of the whole buffer after the call.
+// The frames are lent in the caller's buffer, as `Slip::write` leaves them, and the end stays a number: a slice of the buffer, handed back,
+// would end what a contract can say of the whole buffer after the call.
 #[derive(Clone, Copy)]
 pub struct Turn {
     pub answer: Answer,

@@ -12,7 +12,7 @@ mod reply;
 use answer::{Answer, answer_to};
 use lines::first_line;
 use quorum::EitherRule;
-use reply::read_rule;
+use reply::{Reply, read_rule};
 use std::io;
 use std::io::Read;
 
@@ -29,9 +29,10 @@ fn report(rt: &HostRuntime, input: &[u8]) -> io::Result<()> {
     let Some((line, rest)) = first_line(input) else {
         return Ok(());
     };
-    let reply = read_rule(rt.alloc(), line)?;
+    let asked = read_rule(rt.alloc(), line)?;
+    let reply = Reply(asked);
     println!(rt; "{reply}")?;
-    match reply.0 {
+    match asked {
         Ok(rule) => report_sets(rt, &rule, rest),
         Err(_) => Ok(()),
     }
