@@ -13,7 +13,7 @@ use Rattle.lines.specs.Texts.{listed}
 
 -- ---- what is there
 pub none_there : {A : Type 0} {x : A} {X : Type 0} → None ≡ Some x → X
-none_there e = absurd (let z : ◌≡◌ {A = ℕ} 0 1 = cc in omega arith)
+none_there e = absurd cc
 
 where_some : {A : Type 0} (b : Bool) (x y : A) → cond b (Some x) None ≡ Some y → (b ≡ true) × (x ≡ y)
 where_some true x y e = (refl, cc)
