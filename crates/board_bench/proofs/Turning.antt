@@ -1,5 +1,5 @@
 -- A line that says a port and a frame is answered by what the board makes of the frame. Assumes nothing.
-use Rattle.std.proofs.Common.{◌≡◌, ℕ, List, length, drop, Some, Ok, Err, Option, Result, sym, subst}
+use Rattle.std.proofs.Common.{◌≡◌, ℕ, List, length, Some, Ok, Err, Option, Result, sym, subst}
 use Rattle.quorum.specs.Rules.{Rule}
 use Rattle.wire.specs.declared.posted.Posted.{Posted}
 use Rattle.wire.specs.declared.word.Word.{Word}
@@ -13,23 +13,20 @@ use Rattle.board.specs.Faults.{refusal_of}
 use Rattle.board.specs.Started.{Accepts}
 use Rattle.board.specs.Taking.{word_taken}
 use Rattle.board_bench.specs.declared.answer.Answer.{Answer}
-use Rattle.board_bench.specs.declared.answer.Answer.TheVariants.{Refused}
-use Rattle.board_bench.specs.declared.said.Said.{Said}
-use Rattle.board_bench.specs.Answers.{taken}
+use Rattle.board_bench.specs.declared.answer.Answer.TheVariants.{Refused, Taken as WasTaken}
 use Rattle.board_bench.specs.Saying.{said_in}
 use Rattle.board_bench.specs.Turns.{ByWord, BySaid, Turned}
 
-module _ (R : Rule) (f : Fit) (o p : Record) (a : Answer) (n : ℕ) (buf line : List ℕ) (s : Said) (said : said_in line ≡ Some s) (xs : List ℕ) (part : xs ≡ drop s.begins line) where
-  turned : (r : Result Word BoardFault) → word_taken R f s.port xs ≡ r → ByWord R f o p a n buf s.port xs r → Turned R f o p a n buf line
+module _ (R : Rule) (f : Fit) (o p : Record) (a : Answer) (n : ℕ) (buf line : List ℕ) (port : ℕ) (xs : List ℕ) (said : Some (port, xs) ≡ said_in line) where
+  turned : (r : Result Word BoardFault) → word_taken R f port xs ≡ r → ByWord R f o p a n buf port xs r → Turned R f o p a n buf line
   turned r e h =
-      let P : Result Word BoardFault → Type 0 = ByWord R f o p a n buf s.port xs in
-      let Q : List ℕ → Type 0 = λ ys. ByWord R f o p a n buf s.port ys (word_taken R f s.port ys) in
-      let S : Option Said → Type 0 = BySaid R f o p a n buf line in
-      subst S (sym said) (subst Q part (subst P (sym e) h))
+      let P : Result Word BoardFault → Type 0 = ByWord R f o p a n buf port xs in
+      let S : Option (ℕ × List ℕ) → Type 0 = BySaid R f o p a n buf in
+      subst S said (subst P (sym e) h)
 
-  pub turned_refused : (e : BoardFault) → word_taken R f s.port xs ≡ Err e → a ≡ Refused (refusal_of e) → p ≡ o → n ≡ 0 → Turned R f o p a n buf line
+  pub turned_refused : (e : BoardFault) → word_taken R f port xs ≡ Err e → a ≡ Refused (refusal_of e) → p ≡ o → n ≡ 0 → Turned R f o p a n buf line
   turned_refused e q told stays none = turned (Err e) q (told, stays, none)
 
-  pub turned_taken : (how : Taken) (slip : Posted) → Accepts R f s.port xs o p how slip → a ≡ taken how (length (words_of slip)) → n ≡ length (frames_of slip)
+  pub turned_taken : (how : Taken) (slip : Posted) → Accepts R f port xs o p how slip → a ≡ WasTaken how (length (words_of slip)) → n ≡ length (frames_of slip)
       → buf ≡ zero_filled (frames_of slip) 855 → Turned R f o p a n buf line
   turned_taken how slip takes told bytes holds = turned (Ok takes.0) takes.1 (how, slip, takes, told, bytes, holds)

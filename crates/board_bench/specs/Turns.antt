@@ -1,5 +1,5 @@
 -- What a frame line does to the board, what is answered to it, and which frames stand in the buffer. Assumes nothing.
-use Rattle.std.specs.Prelude.{◌≡◌, ℕ, List, length, drop, Some, None, Ok, Err, Option, Result}
+use Rattle.std.specs.Prelude.{◌≡◌, ℕ, List, length, Some, None, Ok, Err, Option, Result}
 use Rattle.quorum.specs.Rules.{Rule}
 use Rattle.quorum.specs.Counting.{count_rule}
 use Rattle.quorum.specs.declared.count.CountRule.{CountRule}
@@ -15,9 +15,7 @@ use Rattle.board.specs.Faults.{refusal_of}
 use Rattle.board.specs.Started.{Accepts}
 use Rattle.board.specs.Taking.{word_taken}
 use Rattle.board_bench.specs.declared.answer.Answer.{Answer}
-use Rattle.board_bench.specs.declared.answer.Answer.TheVariants.{Unreadable, Refused}
-use Rattle.board_bench.specs.declared.said.Said.{Said}
-use Rattle.board_bench.specs.Answers.{taken}
+use Rattle.board_bench.specs.declared.answer.Answer.TheVariants.{Unreadable, Refused, Taken as WasTaken}
 use Rattle.board_bench.specs.Saying.{said_in}
 
 -- a count rule as it is meant
@@ -32,15 +30,15 @@ module _ (R : Rule) (f : Fit) (o p : Record) (a : Answer) (n : ℕ) (buf : List 
 
   -- what is posted stands in the buffer
   abbrev pub Posts : ℕ → List ℕ → Type 0
-  Posts port xs = (how : Taken) × (slip : Posted) × Accepts R f port xs o p how slip × (a ≡ taken how (length (words_of slip))) × (n ≡ length (frames_of slip)) × (buf ≡ zero_filled (frames_of slip) 855)
+  Posts port xs = (how : Taken) × (slip : Posted) × Accepts R f port xs o p how slip × (a ≡ WasTaken how (length (words_of slip))) × (n ≡ length (frames_of slip)) × (buf ≡ zero_filled (frames_of slip) 855)
 
   abbrev pub ByWord : ℕ → List ℕ → Result Word BoardFault → Type 0
   ByWord port xs (Ok w) = Posts port xs
   ByWord port xs (Err e) = Nothing (Refused (refusal_of e))
 
-  abbrev pub BySaid : List ℕ → Option Said → Type 0
-  BySaid line None = Nothing Unreadable
-  BySaid line (Some s) = ByWord s.port (drop s.begins line) (word_taken R f s.port (drop s.begins line))
+  abbrev pub BySaid : Option (ℕ × List ℕ) → Type 0
+  BySaid None = Nothing Unreadable
+  BySaid (Some s) = ByWord s.0 s.1 (word_taken R f s.0 s.1)
 
   abbrev pub Turned : List ℕ → Type 0
-  Turned line = BySaid line (said_in line)
+  Turned line = BySaid (said_in line)

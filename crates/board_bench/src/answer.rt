@@ -1,11 +1,12 @@
 // What is answered to a line, and how the answer is written.
-ghost use Rattle.std.specs.Prelude.{◌≡◌, Some};
-ghost use Rattle.board_bench.specs.Answers.{answer_line, taken};
+ghost use Rattle.std.specs.Prelude.{Some};
+ghost use Rattle.board_bench.specs.Answers.{answer_line};
 
 use board::Taken;
 use refusal::Refusal;
 use std::fmt;
 
+// An enum and no Result: each case is one printed line, and none is handed on as an error.
 #[derive(Clone, Copy)]
 pub enum Answer {
     // the line is not of its form
@@ -14,19 +15,8 @@ pub enum Answer {
     Refused(Refusal),
     // the board is started, and posted so many words
     Started(usize),
-    // the word is counted, and the board posted so many words
-    Counted(usize),
-    // the word was counted before, and the board posted so many words
-    Again(usize),
-}
-
-pub fn taken_with(how: Taken, posted: usize) -> Answer
-    ensures { result ≡ taken how posted }
-{
-    match how {
-        Taken::Counted => Answer::Counted(posted),
-        Taken::Again => Answer::Again(posted),
-    }
+    // the word is taken, and the board posted so many words
+    Taken(Taken, usize),
 }
 
 impl fmt::Display for Answer {
@@ -43,8 +33,8 @@ impl fmt::Display for Answer {
                 }
             }
             Answer::Started(posted) => write!(f, "started {posted}"),
-            Answer::Counted(posted) => write!(f, "counted {posted}"),
-            Answer::Again(posted) => write!(f, "again {posted}"),
+            Answer::Taken(Taken::Counted, posted) => write!(f, "counted {posted}"),
+            Answer::Taken(Taken::Again, posted) => write!(f, "again {posted}"),
         }
     }
 }

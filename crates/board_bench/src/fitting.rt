@@ -10,7 +10,7 @@ use board::{Fitted, settings_fault};
 use quorum::{CountRule, MAX_COVER, RuleFault};
 use refusal::Refusal;
 
-// The lowest number, where this stands against the rule.
+// The lowest number, where this stands against the rule. A number and no fault: the lower one may be of either kind.
 fn lowest(fault: RuleFault, asked: &Asked) -> u8
     ensures { count_fault asked.now.crew asked.now.cover asked.now.f ≡ Some fault → lowest_of asked.now ≡ Some result }
 {
@@ -31,6 +31,7 @@ pub fn fitted(asked: &Asked) -> Result<Fitted<CountRule>, Refusal>
 {
     match CountRule::new(asked.crew, asked.cover, asked.f) {
         Err(fault) => Err(Refusal::numbered(lowest(fault, asked))),
+        // Its number alone, not `Refusal::from`: the fault of a frame has a place, and that one of settings has none would take a lemma.
         Ok(rule) => Fitted::fit(rule, asked.settings).map_err(|fault| Refusal::numbered(
             Refusal::from(fault).number,
         )),

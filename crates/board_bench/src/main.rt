@@ -50,13 +50,11 @@ fn play_line(rt: &HostRuntime, board: &mut Started<CountRule>, line: &[u8]) -> i
     if before.is_some() {
         return Ok(());
     }
-    match (board.decided(), board.order()) {
-        (Some(decision), Some(order)) => {
-            let decided = Decided { decision, order };
-            println!(rt; "{decided}")
-        }
-        _ => Ok(()),
+    if let Some((decision, order)) = board.decided().zip(board.order()) {
+        let decided = Decided { decision, order };
+        println!(rt; "{decided}")?;
     }
+    Ok(())
 }
 
 fn play(rt: &HostRuntime, board: &mut Started<CountRule>, input: &[u8]) -> io::Result<()> {
@@ -89,6 +87,7 @@ fn main(rt: HostRuntime) -> io::Result<()> {
     if input.is_empty() {
         return Ok(());
     }
+    // The place of the first line feed tells both parts: what cuts lines off in `rule_check` is that program's own.
     match place_of(b'\n', &input) {
         None => open(&rt, &input, &[]),
         Some(end) => open(&rt, &input[..end], &input[end + 1..]),

@@ -2,14 +2,15 @@
 ghost use Rattle.std.specs.Prelude.{◌≡◌, ◌≤◌};
 ghost use Rattle.board_bench.specs.Turns.{Turned, meant};
 
-use crate::answer::{Answer, taken_with};
+use crate::answer::Answer;
 use crate::posts::written;
 use crate::said::read_said;
 use board::Started;
 use quorum::CountRule;
 use wire::SLIP_MAX;
 
-// The end stays a number: a slice of the buffer, handed back, would end what a contract can say of the whole buffer after the call.
+// The frames are lent in the caller's buffer, as `Slip::write` leaves them, and the end stays a number: a slice of the buffer, handed back,
+// would end what a contract can say of the whole buffer after the call.
 #[derive(Clone, Copy)]
 pub struct Turn {
     pub answer: Answer,
@@ -22,20 +23,19 @@ pub fn turn_with(board: &mut Started<CountRule>, line: &[u8], buf: &mut [u8; SLI
     ensures turned { Turned (meant board.old.rule) board.old.fitting.fit board.old.state board.new.state result.answer result.end buf.new line.now }
     ensures within { result.end ≤ 855 }
 {
-    let Some(said) = read_said(line) else {
+    let Some((port, frame)) = read_said(line) else {
         return Turn {
             answer: Answer::Unreadable,
             end: 0,
         };
     };
-    let begins = said.begins;
-    match board.take(said.port, &line[begins..]) {
+    match board.take(port, frame) {
         Err(fault) => Turn {
             answer: Answer::Refused(fault.into()),
             end: 0,
         },
         Ok((how, slip)) => {
-            let answer = taken_with(how, slip.count());
+            let answer = Answer::Taken(how, slip.count());
             let end = written(slip, buf);
             Turn { answer, end }
         }

@@ -25,16 +25,17 @@ impl CableRule {
         ensures { MatchOption result (fair crew spare first second ≡ false) (λ x. (fair crew spare first second ≡ true) × (cable_rule x.crew x.cover x.first x.second ≡ cable_rule crew cover first second)) }
     {
         let spared = spare < crew && !has(first, spare) && !has(second, spare);
-        if !spared || !in_crew(crew, first) || !in_crew(crew, second) {
-            return None;
+        if spared && in_crew(crew, first) && in_crew(crew, second) {
+            Some(CableRule {
+                crew,
+                cover,
+                spare,
+                first,
+                second,
+            })
+        } else {
+            None
         }
-        Some(CableRule {
-            crew,
-            cover,
-            spare,
-            first,
-            second,
-        })
     }
 }
 
@@ -67,9 +68,7 @@ mod tests {
     fn both_cables_without_the_board_on_neither_are_strong_and_not_ample(
         rt: HostRuntime,
     ) -> Result<(), Fail> {
-        let Some(rule) = CableRule::new(5, 5, 4, 3, 12) else {
-            return Err(Fail::new("not made"));
-        };
+        let rule = CableRule::new(5, 5, 4, 3, 12).ok_or("not made")?;
         assert!(rt; !strong(&rule, 3));
         assert!(rt; strong(&rule, 15));
         assert!(rt; !ample(&rule, 15));
@@ -81,9 +80,7 @@ mod tests {
     fn a_crew_beyond_sixteen_can_be_made_elsewhere_and_has_no_ample_set(
         rt: HostRuntime,
     ) -> Result<(), Fail> {
-        let Some(rule) = CableRule::new(17, 3, 16, 1, 2) else {
-            return Err(Fail::new("not made"));
-        };
+        let rule = CableRule::new(17, 3, 16, 1, 2).ok_or("not made")?;
         assert!(rt; !ample(&rule, 65535));
         Ok(())
     }
@@ -106,9 +103,7 @@ mod tests {
 
     #[test]
     fn no_listed_sets_is_a_good_rule_under_which_nobody_fails(rt: HostRuntime) -> Result<(), Fail> {
-        let Ok(rule) = EitherRule::listed(1, 3, &[]) else {
-            return Err(Fail::new("refused"));
-        };
+        let rule = EitherRule::listed(1, 3, &[]).map_err(|_| "refused")?;
         assert!(rt; !strong(&rule, 0));
         assert!(rt; strong(&rule, 1));
         assert!(rt; ample(&rule, 1));
@@ -120,9 +115,7 @@ mod tests {
     fn boards_outside_the_crew_make_a_set_strong_and_not_ample(
         rt: HostRuntime,
     ) -> Result<(), Fail> {
-        let Ok(rule) = CountRule::new(4, 3, 1) else {
-            return Err(Fail::new("refused"));
-        };
+        let rule = CountRule::new(4, 3, 1).map_err(|_| "refused")?;
         assert!(rt; strong(&rule, 16));
         assert!(rt; !ample(&rule, 16 + 3));
         assert!(rt; ample(&rule, 16 + 7));

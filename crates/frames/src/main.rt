@@ -29,6 +29,7 @@ fn tell(out: &mut impl Write, number: u64, answer: Result<Word, FrameFault>) -> 
         }
         Err(fault) => {
             let refusal = Refusal::from(fault);
+            // the line has a place in any case: 0 where the refusal has none
             let place = refusal.place.unwrap_or(0);
             let refused = refusal.number;
             writeln!(out, "{number}: refused {refused} at {place}")

@@ -2,7 +2,7 @@
 ghost use Rattle.std.specs.Prelude.{◌≡◌, ℕ, ◌+◌};
 ghost use Rattle.frames.specs.Tallies.{capped, noted};
 
-#[derive(Clone, Copy)]
+#[derive(Clone, Copy, Default)]
 pub struct Tally {
     pub words: u64,
     pub refused: u64,
@@ -12,10 +12,7 @@ impl Tally {
     pub fn new() -> Tally
         ensures { result ≡ record { words = 0; refused = 0 } }
     {
-        Tally {
-            words: 0,
-            refused: 0,
-        }
+        Tally::default()
     }
 
     // One piece more. The counts stop at the largest number.

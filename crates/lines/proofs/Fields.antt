@@ -11,7 +11,7 @@ use Rattle.std.proofs.lemmas.List.Sums.{position_or_len_is}
 use Rattle.numerals.specs.Numerals.{comma, and_then, with_digit, number_on, number_in, each_number, parts, numbers_in}
 use Rattle.lines.specs.Calls.{Call, unreadable}
 use Rattle.lines.specs.Lines.{readable, start_with, carry_with}
-use Rattle.lines.specs.Parts.{field_in}
+use Rattle.numerals.specs.Parts.{field_in}
 use Rattle.lines.proofs.Spelling.{none_there, then_some}
 
 -- ---- one number

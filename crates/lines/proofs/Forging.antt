@@ -5,19 +5,11 @@ use Rattle.std.proofs.lemmas.List.Quantifiers.{position-Some}
 use Rattle.lines.specs.Calls.{Call, forges}
 use Rattle.lines.specs.Lines.{readable, forged_in}
 use Rattle.numerals.specs.Numerals.{comma, and_then, number_in}
-use Rattle.lines.specs.Parts.{field_in}
+use Rattle.numerals.specs.Parts.{field_in}
 use Rattle.lines.proofs.Spelling.{then_some}
 
 -- ---- one number
 module _ (bs : List ℕ) where
-  pub no_comma : position (λ b. eqb b comma) bs ≡ None → None ≡ field_in bs
-  no_comma e = ap (λ (o : Option ℕ). and_then o (λ i. and_then (number_in (take i bs)) (λ v. Some (v, drop (i + 1) bs)))) (sym e)
-
-  pub field_found : (i : ℕ) → position (λ b. eqb b comma) bs ≡ Some i → (o : Option ℕ) → number_in (take i bs) ≡ o → and_then o (λ v. Some (v, drop (i + 1) bs)) ≡ field_in bs
-  field_found i e o f =
-      ap (λ (o : Option ℕ). and_then o (λ v. Some (v, drop (i + 1) bs))) (sym f)
-      ∙ ap (λ (o : Option ℕ). and_then o (λ i. and_then (number_in (take i bs)) (λ v. Some (v, drop (i + 1) bs)))) (sym e)
-
   -- what follows the comma is an end of the bytes
   pub behind_comma : (f : ℕ × List ℕ) → field_in bs ≡ Some f → (n : ℕ) × (n ≤ length bs) × (f.1 ≡ drop n bs)
   behind_comma f e =

@@ -5,7 +5,7 @@ use Rattle.std.specs.List.{onto_first, position_or_len}
 use Rattle.std.proofs.Math.Nat.{add_comm}
 use Rattle.std.proofs.Math.Numerals.{suc-eq-add-one}
 use Rattle.numerals.specs.Numerals.{comma, and_then, number_in, each_number, parts, numbers_in}
-use Rattle.lines.specs.Parts.{field_in}
+use Rattle.numerals.specs.Parts.{field_in}
 
 -- the bytes before the first comma, or all where there is none
 abbrev pub before_comma : List ℕ → List ℕ

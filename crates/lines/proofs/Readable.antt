@@ -8,7 +8,7 @@ use Rattle.std.proofs.lemmas.Bool.{eq-eqb, lt-ltb, le-leb, and_from, cond-true}
 use Rattle.vote.specs.declared.Method.{Method}
 use Rattle.vote.specs.declared.Method.TheVariants.{Plain, Echo}
 use Rattle.numerals.specs.Numerals.{comma, max_number, and_then, digit, with_digit, number_on, number_in, numbers_in}
-use Rattle.lines.specs.Parts.{field_in}
+use Rattle.numerals.specs.Parts.{field_in}
 use Rattle.vote.specs.Conversions.{method_of}
 use Rattle.lines.specs.Calls.{Failing, by_count, by_sets, Opening, Call, unreadable, opens, starts_board, carries, forges}
 use Rattle.lines.specs.Lines.{line_feed, max_line, open_by_count_letter, open_by_sets_letter, start_letter, carry_letter, forge_letter, readable, lettered, open_by_count, open_by_sets, opened_in, start_with, carry_with, forged_in, whole, body, call_by, call_in}

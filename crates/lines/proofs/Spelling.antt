@@ -8,12 +8,12 @@ use Rattle.std.proofs.lemmas.List.Quantifiers.{position-Some}
 use Rattle.std.proofs.lemmas.List.{take-append-drop, drop_more}
 use Rattle.std.proofs.lemmas.Bool.{eqb-true, leb-true, ltb-true, and_parts}
 use Rattle.numerals.specs.Numerals.{comma, and_then, digit, with_digit, number_on, number_in, each_number, parts, numbers_in}
-use Rattle.lines.specs.Parts.{field_in}
+use Rattle.numerals.specs.Parts.{field_in}
 use Rattle.lines.specs.Texts.{listed}
 
 -- ---- what is there
 pub none_there : {A : Type 0} {x : A} {X : Type 0} → None ≡ Some x → X
-none_there e = absurd (let z : ◌≡◌ {A = ℕ} 0 1 = cc in omega arith)
+none_there e = absurd cc
 
 where_some : {A : Type 0} (b : Bool) (x y : A) → cond b (Some x) None ≡ Some y → (b ≡ true) × (x ≡ y)
 where_some true x y e = (refl, cc)

@@ -7,10 +7,10 @@ use Rattle.vote.specs.declared.Method.TheVariants.{Plain, Echo}
 use Rattle.lines.specs.Calls.{Call, unreadable}
 use Rattle.lines.specs.Lines.{line_feed, max_line, readable, lettered, open_by_count, open_by_sets, opened_in, start_with, carry_with, forged_in, whole, body, call_by, call_in, open_by_count_letter, open_by_sets_letter, start_letter, carry_letter, forge_letter}
 use Rattle.numerals.specs.Numerals.{comma, numbers_in}
-use Rattle.lines.specs.Parts.{field_in}
+use Rattle.numerals.specs.Parts.{field_in}
 use Rattle.vote.specs.Conversions.{method_of, plain_letter, echo_letter}
 use Rattle.lines.specs.Texts.{letter_of, listed, Writes}
-use Rattle.lines.proofs.Spelling.{numbers_spelled, field_spelled}
+use Rattle.lines.proofs.Spelling.{none_there, numbers_spelled, field_spelled}
 
 -- ---- parts of a list by their places
 led_by_letter : (bs : List ℕ) → lettered bs ≡ true → bs ≡ get_or bs 0 0 ∷ comma ∷ drop 2 bs
@@ -47,7 +47,7 @@ sets_lead vs e =
 method_by : (b : ℕ) (m : Method) (p q : Bool) → eqb b plain_letter ≡ p → eqb b echo_letter ≡ q → cond p (Some Plain) (cond q (Some Echo) None) ≡ Some m → b ≡ letter_of m
 method_by b m true q hp hq e = let s : Plain ≡ m = cc in eqb-true b plain_letter hp ∙ ap letter_of s
 method_by b m false true hp hq e = let s : Echo ≡ m = cc in eqb-true b echo_letter hq ∙ ap letter_of s
-method_by b m false false hp hq e = absurd (let z : ◌≡◌ {A = ℕ} 0 1 = cc in omega arith)
+method_by b m false false hp hq e = none_there e
 
 method_letter : (b : ℕ) (m : Method) → method_of b ≡ Some m → b ≡ letter_of m
 method_letter b m e = method_by b m (eqb b plain_letter) (eqb b echo_letter) refl refl e

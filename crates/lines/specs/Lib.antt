@@ -1,4 +1,3 @@
-pub mod Parts
 pub mod Calls
 pub mod Lines
 pub mod Texts

@@ -3,7 +3,7 @@ use Rattle.std.specs.Prelude.{ℕ, ◌+◌, ◌-◌, Bool, cond, ◌&&◌, List,
 use Rattle.vote.specs.declared.Method.{Method}
 use Rattle.vote.specs.Conversions.{method_of}
 use Rattle.numerals.specs.Numerals.{comma, numbers_in}
-use Rattle.lines.specs.Parts.{field_in}
+use Rattle.numerals.specs.Parts.{field_in}
 use Rattle.lines.specs.Calls.{Failing, by_count, by_sets, Opening, Call, unreadable, opens, starts_board, carries, forges}
 
 abbrev pub line_feed : ℕ

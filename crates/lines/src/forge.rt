@@ -3,8 +3,8 @@ ghost use Rattle.std.specs.Prelude.{◌≡◌, ◌≤◌, length, drop};
 ghost use Rattle.lines.specs.Lines.{forged_in};
 ghost use Rattle.lines.specs.Told.{call_of, Within};
 
-use crate::field::read_field;
 use crate::line::Line;
+use numerals::read_field;
 
 // What follows the letter and its comma says it.
 pub(crate) fn forge(line: &[u8]) -> Option<Line>

@@ -3,7 +3,6 @@
 
 #![tactic(auto)]
 
-mod field;
 mod forge;
 mod head;
 mod line;

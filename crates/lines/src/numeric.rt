@@ -4,9 +4,8 @@ ghost use Rattle.lines.specs.Lines.{readable, start_with, carry_with};
 ghost use Rattle.lines.specs.Told.{call_of, Within};
 ghost use Rattle.numerals.specs.Numerals.{numbers_in};
 
-use crate::field::read_field;
 use crate::line::Line;
-use numerals::number;
+use numerals::{number, read_field};
 
 pub(crate) fn start(body: &[u8]) -> Option<Line>
     ensures call { (line : List ℕ) → call_of line result ≡ readable (numbers_in body.now) start_with }

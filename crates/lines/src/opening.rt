@@ -19,7 +19,7 @@ pub(crate) fn open<F: FnOnce(u16) -> By>(head: &Head, by: F) -> Option<Line>
         return None;
     };
     let by = by(*third);
-    if rest.len() != by.sets() + *crew as usize {
+    if rest.len() != by.sets() + usize::from(*crew) {
         return None;
     }
     Some(Line::Open(Plan {

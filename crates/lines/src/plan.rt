@@ -12,8 +12,9 @@ pub enum By {
     Sets(u16),
 }
 
-// The numbers are the listed sets, and then the character that each board starts from: one list, as only together are they as few as a
-// line can hold. Characters go from 1 to `characters`; `listed` is the set of boards listed bad.
+// The numbers are the listed sets, and then the character that each board starts from. They stay in one list, which `by` parts: either may be
+// as long as a line allows, so that two lists would take twice the room. Characters go from 1 to `characters`; `listed` is the set of boards
+// listed bad.
 #[derive(Clone, Copy)]
 pub struct Plan {
     pub method: Method,
@@ -32,7 +33,7 @@ impl By {
     {
         match self {
             By::Count(_) => 0,
-            By::Sets(many) => many as usize,
+            By::Sets(many) => usize::from(many),
         }
     }
 }

@@ -17,6 +17,7 @@ use crate::plan::By;
 const MAX_LINE: usize = 121;
 
 // By its letter, the call that the bytes write, if a comma follows the letter and a line feed is the last of them.
+// A match on the letter: what follows has another form for each.
 #[tactic(auto, unfolding(crate::specs::Lines::call_in))]
 fn read(line: &[u8]) -> Option<Line>
     ensures call { call_of line.now result ≡ call_in line.now }
@@ -39,6 +40,7 @@ fn read(line: &[u8]) -> Option<Line>
 }
 
 // The call that the bytes write, if they write one; its line feed is the last byte of a line.
+// It stands apart from `read`, so that the theorems are told once, and not at each of its returns.
 pub fn read_line(line: &[u8]) -> Option<Line>
     ensures call { call_of line.now result ≡ call_in line.now }
     ensures within { Within line.now result }

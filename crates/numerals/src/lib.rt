@@ -3,9 +3,11 @@
 #![tactic(auto)]
 
 mod digits;
+mod field;
 mod list;
 
 pub use digits::number;
+pub use field::read_field;
 pub use list::numbers;
 
 #[cfg(test)]

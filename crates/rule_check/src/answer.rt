@@ -7,6 +7,7 @@ use numerals::number;
 use quorum::{EitherRule, ample, strong};
 use std::fmt;
 
+// Two facts of the set, each printed in its column: neither says whether the other is there.
 #[derive(Clone, Copy)]
 pub struct Judged {
     pub set: u16,

@@ -12,17 +12,15 @@ mod reply;
 use answer::{Answer, answer_to};
 use lines::first_line;
 use quorum::EitherRule;
-use reply::read_rule;
+use reply::{Reply, read_rule};
 use std::io;
 use std::io::Read;
 
 fn report_sets(rt: &HostRuntime, rule: &EitherRule, input: &[u8]) -> io::Result<()> {
-    let mut rest = input;
-    // stays a loop that cuts off line by line: `split` has one part more, behind the line feed at the end
-    while let Some((line, after)) = first_line(rest) {
+    for line in input.split_inclusive(|byte| *byte == b'\n') {
+        let line = line.strip_suffix(b"\n").unwrap_or(line);
         let answer = Answer(answer_to(rule, line));
         println!(rt; "{answer}")?;
-        rest = after;
     }
     Ok(())
 }
@@ -31,9 +29,10 @@ fn report(rt: &HostRuntime, input: &[u8]) -> io::Result<()> {
     let Some((line, rest)) = first_line(input) else {
         return Ok(());
     };
-    let reply = read_rule(rt.alloc(), line)?;
+    let asked = read_rule(rt.alloc(), line)?;
+    let reply = Reply(asked);
     println!(rt; "{reply}")?;
-    match reply.0 {
+    match asked {
         Ok(rule) => report_sets(rt, &rule, rest),
         Err(_) => Ok(()),
     }

@@ -42,13 +42,13 @@ fn listed_rule(numbers: &[u16]) -> Result<EitherRule, NoRule>
     let [crew, cover, many, sets @ ..] = numbers else {
         return Err(NoRule::Unreadable);
     };
-    if sets.len() != *many as usize {
+    if sets.len() != usize::from(*many) {
         return Err(NoRule::Unreadable);
     }
     Ok(EitherRule::listed(*crew, *cover, sets)?)
 }
 
-// The rule that a letter and the numbers after it ask for.
+// The rule that a letter and the numbers after it ask for. A match on the letter: each kind of rule reads another form of numbers.
 fn rule_by(letter: u8, numbers: &[u16]) -> Result<EitherRule, NoRule>
     ensures { Replies (asked_by letter numbers.now) result }
 {
@@ -59,22 +59,22 @@ fn rule_by(letter: u8, numbers: &[u16]) -> Result<EitherRule, NoRule>
     }
 }
 
+// What is answered to the first line: a letter, a comma, numbers.
+pub fn read_rule(heap: Global, line: &[u8]) -> Result<Result<EitherRule, NoRule>, AllocError>
+    ensures { IfOk result (λ o. Replies (asked_in line.now) o) }
+{
+    let [letter, b',', rest @ ..] = line else {
+        return Ok(Err(NoRule::Unreadable));
+    };
+    match numbers(heap, rest)? {
+        None => Ok(Err(NoRule::Unreadable)),
+        Some(values) => Ok(rule_by(*letter, &values)),
+    }
+}
+
 // A reply as it is printed.
 #[derive(Clone, Copy)]
 pub struct Reply(pub Result<EitherRule, NoRule>);
-
-// What is answered to the first line: a letter, a comma, numbers.
-pub fn read_rule(heap: Global, line: &[u8]) -> Result<Reply, AllocError>
-    ensures { IfOk result (λ o. Replies (asked_in line.now) o.0) }
-{
-    let [letter, b',', rest @ ..] = line else {
-        return Ok(Reply(Err(NoRule::Unreadable)));
-    };
-    match numbers(heap, rest)? {
-        None => Ok(Reply(Err(NoRule::Unreadable))),
-        Some(values) => Ok(Reply(rule_by(*letter, &values))),
-    }
-}
 
 impl fmt::Display for Reply {
     ghost output = { λ r. Some (reply_line r.0) };

@@ -2,9 +2,9 @@
 ghost use Rattle.std.specs.Prelude.{◌≡◌, position, ◌==◌};
 ghost use Rattle.std.specs.Option.{option_map};
 ghost use Rattle.numerals.specs.Numerals.{comma};
-ghost use Rattle.lines.specs.Parts.{field_in};
+ghost use Rattle.numerals.specs.Parts.{field_in};
 
-use numerals::number;
+use crate::digits::number;
 
 fn first_comma(bytes: &[u8]) -> Option<usize>
     ensures { result ≡ position (λ b. b == comma) bytes.now }
@@ -13,7 +13,7 @@ fn first_comma(bytes: &[u8]) -> Option<usize>
 }
 
 // The number before the first comma, if the bytes begin so, and the bytes behind that comma.
-pub(crate) fn read_field(bytes: &[u8]) -> Option<(u16, &[u8])>
+pub fn read_field(bytes: &[u8]) -> Option<(u16, &[u8])>
     ensures { option_map (λ f. (f.0, f.1.now)) result ≡ field_in bytes.now }
 {
     let comma = first_comma(bytes)?;

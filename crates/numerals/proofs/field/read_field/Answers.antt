@@ -3,8 +3,8 @@ use Rattle.std.proofs.Common.{rules, ◌≡◌, ◌+◌, ◌∙◌, eqb, take, S
 use Rattle.std.specs.List.{position}
 use Rattle.std.proofs.lemmas.List.{take_rest}
 use Rattle.numerals.specs.Numerals.{comma, number_in}
-use Rattle.lines.proofs.Forging.{no_comma, field_found}
-use Rattle.lines.proofs.field.read_field.Goals as goal
+use Rattle.numerals.proofs.Commas.{no_comma, field_found}
+use Rattle.numerals.proofs.field.read_field.Goals as goal
 
 pub returns-in_err-comma : goal.returns-in_err-comma
 returns-in_err-comma c =

@@ -1,6 +1,0 @@
--- Each line makes what is left shorter. Assumes nothing.
-use Rattle.std.proofs.Common.{length}
-use Rattle.rule_check.proofs.report_sets.Given as goal
-
-abbrev pub decreases-loop-line : goal.decreases-loop-line
-decreases-loop-line l = length l.rest
