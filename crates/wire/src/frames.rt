@@ -63,6 +63,7 @@ impl Posted {
     }
 
     // How many bytes their frames have: all are of one length, since a kind and a value are one digit each.
+    #[tactic(auto, using(crate::proofs::Counting::frames_weigh))]
     pub(crate) fn frames_len(&self) -> usize
         ensures { result ≡ length (frames_of self.now) }
     {

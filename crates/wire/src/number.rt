@@ -10,7 +10,7 @@ pub(crate) fn width(number: u16) -> usize
     ensures value { result ≡ length (decimal number) }
     ensures bound { result ≤ 5 }
 {
-    // stays a table: the library has no `checked_ilog10`
+    // stays a table: tried with `checked_ilog10`, which proves, and costs 250 instructions more for each line of `bench`
     match number {
         0..=9 => 1,
         10..=99 => 2,

@@ -23,6 +23,7 @@ impl Drop for Slip {
 
 impl Slip {
     // A slip without words.
+    #[tactic(auto, using(crate::proofs::Slipped::made_empty, crate::proofs::Slipped::none_posted_none))]
     pub fn empty(group: u16, change: u16, sender: u8) -> Result<Slip, FrameFault>
         ensures value { mapped (λ s. s.posted) result ≡ slip_made group change sender }
         ensures no_words { IfOk result (λ s. words_of s.posted ≡ []) }
@@ -31,6 +32,7 @@ impl Slip {
     }
 
     // A slip with these words. Of a set of values, what is above the largest value stands for no word.
+    #[tactic(auto, using(crate::proofs::Ranging::passed_ranges, crate::proofs::Slipped::address_sound))]
     pub fn holding(posted: Posted) -> Result<Slip, FrameFault>
         ensures { mapped (λ s. s.posted) result ≡ unless (range_fault (word_of posted 1 0)) (Ok posted) }
     {
@@ -46,6 +48,7 @@ impl Slip {
     }
 
     // Puts the word of this kind and value on the slip; or refuses, and leaves the slip as it was.
+    #[tactic(auto, using(crate::proofs::Ranging::passed_ranges, crate::proofs::Slipped::same_address))]
     pub fn post(&mut self, kind: u8, value: u8) -> Result<(), FrameFault>
         ensures value { result ≡ unless (range_fault (word_of self.old.posted kind value)) (Ok tt) }
         ensures posted { self.new.posted ≡ (if is_ok result then with_word self.old.posted kind value else self.old.posted) }

@@ -1,4 +1,4 @@
-use Rattle.std.proofs.Common.{◌≡◌, ◌+◌, ◌≤◌, List, [], ◌∷◌, length, ap, ◌∙◌, ℕ, arith}
+use Rattle.std.proofs.Common.{◌≡◌, ◌≤◌, List, [], ◌∷◌, length, ap, ◌∙◌, ℕ, arith}
 use Rattle.std.proofs.lemmas.List.{append_assoc}
 use Rattle.wire.specs.declared.word.Word.{Word}
 use Rattle.wire.specs.Limits.{comma, line_feed}
