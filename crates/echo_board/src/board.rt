@@ -15,7 +15,8 @@ use quorum::FailureRule;
 use vote::{Decision, News, Vote, Voting};
 
 // What a board has counted, the values that it has echoed, as a set, its words of the kinds 2 to 5, and its decision.
-// The words stay four fields: each is the answer of another test, and an array by kind would put numbers in the place of their names.
+// The words stay four fields: each is the answer of another test, and an array by kind would put numbers in the place of their names. Findings
+// has the same four and a decision: a struct of the four for both would only stand as one name more before each.
 #[derive(Clone, Copy)]
 pub struct EchoRecord {
     pub(crate) heard: Heard,

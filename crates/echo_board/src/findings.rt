@@ -20,8 +20,8 @@ pub(crate) struct Findings {
     pub(crate) decision: Option<Decision>,
 }
 
-// What is held, or else what is found: where something is held, the test is not made, which saves its time. Tried with `or_else`: it takes an FnOnce, and of a test
-// under a rule its contract then told nothing.
+// What is held, or else what is found: where something is held, the test is not made, which saves its time. Tried with `or_else`, with a clause on the closure too: it
+// takes an FnOnce, and of a test under a rule its contract then told nothing.
 fn held_or<T, F: Fn() -> Option<T>>(held: Option<T>, find: F) -> Option<T>
     requires { F.pre find }
     ensures { MatchOption held (F.post find result) (λ x. result ≡ Some x) }

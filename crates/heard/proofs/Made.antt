@@ -3,7 +3,7 @@ use Rattle.std.proofs.Common.{◌≡◌, ℕ, zero, suc, ◌-◌, ◌<◌, ◌�
 use mir.Val.{bool_byte}
 use lib.Bits.{bit_or, bit_and}
 use lib.Dec.{leb-zero}
-use Rattle.std.proofs.lemmas.Bool.{false≢true, and_right, ne_eqb, le-leb, cases_eq}
+use Rattle.std.proofs.lemmas.Bool.{and_right, ne_eqb, le-leb, cases_eq}
 use Rattle.quorum.specs.Sets.{set_of}
 use Rattle.quorum.specs.Rules.{Rule, strong, ample, strong_by, ample_by}
 use Rattle.quorum.specs.Facts.{AmpleSetsShare}

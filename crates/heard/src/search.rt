@@ -40,6 +40,7 @@ pub(crate) fn strong_values<R: FailureRule>(voting: &Voting<R>, senders: &[u16; 
     ensures { result ≡ values (λ v. nat_le v voting.now.characters && is_strong (R.meaning voting.now.rule.now) (slice_index senders.now v)) }
 {
     let mut found: u16 = 0;
+    // Tried as `0..=`: the last turn then wants a proof of its own, twice the answers for one sign less.
     for v in 0..voting.characters + 1 {
         if strong(voting.rule, senders[v as usize]) {
             found |= 1 << v;
