@@ -1,10 +1,10 @@
 -- Two numbers with a comma behind each, and the rest of the line. Assumes nothing.
-use Rattle.std.proofs.Common.{◌≡◌, ℕ, ◌+◌, ◌-◌, ◌≤◌, eqb, List, length, take, drop, Some, None, Option, sym, ap, ◌∙◌, arith, length-drop, drop-drop}
+use Rattle.std.proofs.Common.{◌≡◌, ℕ, ◌+◌, ◌-◌, ◌≤◌, eqb, List, length, take, drop, Some, Option, sym, ap, ◌∙◌, arith, length-drop, drop-drop}
 use Rattle.std.specs.List.{position}
 use Rattle.std.proofs.lemmas.List.Quantifiers.{position-Some}
 use Rattle.lines.specs.Calls.{Call, forges}
 use Rattle.lines.specs.Lines.{readable, forged_in}
-use Rattle.numerals.specs.Numerals.{comma, and_then, number_in}
+use Rattle.numerals.specs.Numerals.{comma, number_in}
 use Rattle.numerals.specs.Parts.{field_in}
 use Rattle.lines.proofs.Spelling.{then_some}
 

@@ -1,5 +1,5 @@
 -- The frame is what follows the comma. Assumes nothing.
-use Rattle.std.proofs.Common.{rules, ◌≡◌, Some, sym, refl, ap, ◌∙◌, arith}
+use Rattle.std.proofs.Common.{rules, ◌≡◌, Some, refl, ap, arith}
 use Rattle.board_bench.specs.declared.answer.Answer.TheVariants.{Refused, Taken}
 use Rattle.board_bench.specs.Saying.{said_in}
 use Rattle.board_bench.proofs.Turning.{turned_refused, turned_taken}
