@@ -42,7 +42,7 @@ impl Settings {
 }
 
 impl<R: FailureRule + Drop> Fitted<R> {
-    // The fitted board, or what stands against it.
+    // The fitted board, or what stands against it. The promise is not said by `Judged`, which would nest its parts, and callers take them one by one.
     pub fn fit(rule: R, settings: Settings) -> Result<Fitted<R>, BoardFault>
         ensures { MatchResult result (λ b. (settings_fault (R.meaning rule) settings ≡ None) × (b.rule ≡ rule) × Keeps settings b.fitting.fit) (λ e. settings_fault (R.meaning rule) settings ≡ Some e) }
     {

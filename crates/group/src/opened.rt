@@ -70,7 +70,7 @@ impl Opening {
 }
 
 impl<R: FailureRule + Drop> Group<R> {
-    // Opens a group, or tells what stands against it.
+    // Opens a group, or tells what stands against it. The promise is not said by `Judged`, which would nest its parts, and callers take them one by one.
     pub fn open(rule: R, opening: &Opening) -> Result<Group<R>, GroupFault>
         ensures { MatchResult result (λ g. (opening_fault (R.meaning rule) opening.now ≡ None) × (g.rule ≡ rule) × Settles (R.meaning rule) opening.now g.terms × Reached (R.meaning rule) g.terms g.records []) (λ e. opening_fault (R.meaning rule) opening.now ≡ Some e) }
     {

@@ -32,6 +32,7 @@ fn taken<R: FailureRule>(
     ))
 }
 
+// `same` stays spelled out at each call that changes records: two equations tell plainer than the name of a definition what is kept.
 impl<R: FailureRule> Group<R> {
     // Board `to`, which has started, takes the bytes on the port.
     pub(crate) fn take(&mut self, to: u16, port: u8, bytes: &[u8]) -> Result<Turn, GroupFault>

@@ -149,7 +149,7 @@ module _ (o : Opening) where
 
       pub group_asked : opening_fault o ≡ option_map OfGroup (group.opening_fault (rule_of o) a)
       unfolding further
-      group_asked = after_rule ruled ∙ (lift_two starts_good bad_fail ∙ ap option_map OfGroup (sym in_group))
+      group_asked = after_rule ruled ∙ (lift_two starts_good bad_fail ∙ ap (option_map OfGroup) (sym in_group))
 
       pub settles : (T : Terms) → group.Settles (rule_of o) a T → group.Settles (rule_of o) (asked_of o) T
       settles T s = record {
