@@ -7,22 +7,12 @@ use crate::Depth;
 use quorum::FailureRule;
 
 // The failure rule, how many characters there are, and the depth.
+#[derive(Drop)]
 pub struct Voting<'a, R: FailureRule> {
     pub rule: &'a R,
     pub characters: u8,
     pub depth: Depth,
     ghost few: { characters ≤ max_characters },
-}
-
-// Nothing is owned.
-impl<R: FailureRule> Drop for Voting<'_, R> {
-    fn drop(self) {
-        let Voting {
-            rule: _,
-            characters: _,
-            depth: _,
-        } = self;
-    }
 }
 
 impl<'a, R: FailureRule> Voting<'a, R> {
