@@ -8,7 +8,7 @@ use quorum::{FailureRule, MAX_COVER, MAX_CREW, MIN_COVER};
 use vote::{Depth, Method};
 use wire::{Word, read_frame};
 
-// The highest kind that the method uses at the depth.
+// The highest kind that the method uses at the depth. A rule of the methods, and no conversion: a table of numbers, as FORMATS.md has it.
 fn kinds_used(method: Method, depth: Depth) -> u8
     ensures { result ≡ kinds_used method depth }
 {
@@ -20,7 +20,7 @@ fn kinds_used(method: Method, depth: Depth) -> u8
     }
 }
 
-// The least value of a kind.
+// The least value of a kind, another rule of the methods. The kind stays a number, as in a Word: one that is not used has a least value too.
 fn least_value(method: Method, kind: u8) -> u8
     ensures { result ≡ least_value method kind }
 {

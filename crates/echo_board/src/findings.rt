@@ -34,7 +34,7 @@ fn held_or<T, F: Fn() -> Option<T>>(held: Option<T>, find: F) -> Option<T>
 
 impl EchoRecord {
     // Makes the tests of which there is no answer yet, once a vote of the kind is counted: only an echo can make an echo due.
-    // At depth 1 the outcome decides, and there are no kinds 4 and 5.
+    // At depth 1 the outcome decides, and there are no kinds 4 and 5. The kind is a number, as in a Vote.
     pub(crate) fn find<R: FailureRule>(&self, voting: &Voting<R>, kind: u8) -> Findings
         ensures { (x : Seen) → self.now.heard ≡ heard_of (R.meaning voting.now.rule.now).crew x → result ≡ completing kind self.now (findings_of (setting_in voting.now) x) }
     {

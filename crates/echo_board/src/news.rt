@@ -9,7 +9,7 @@ ghost use Rattle.vote.specs.Setting.{Setting};
 
 use vote::{MAX_CHARACTERS, News};
 
-// The value that the word bears, if there is one.
+// The value that the word bears, if there is one, as a set. No `From`: such a set is a number, and has no type of its own.
 fn value_set(word: Option<u8>) -> u16
     ensures { result ≡ values (λ v. is v word) }
 {

@@ -6,7 +6,7 @@ ghost use Rattle.std.specs.Prelude.{◌≡◌, ◌<◌, ◌≤◌, ⊤, [], ◌�
 
 use std::alloc::AllocError;
 
-// The first `many` places hold the items.
+// The first `many` places hold the items. The one array with a length beside it: no Vec, as nothing is allocated, and no ArrayVec, which is not Copy.
 #[derive(Copy)]
 pub struct Fixed<T, const N: usize> {
     places: [T; N],

@@ -60,7 +60,7 @@ impl From<BoardFault> for GroupFault {
     }
 }
 
-// What comes up from a board keeps number and place, and gets the board's number.
+// What comes up from a board keeps number and place, and gets the board's number. As in `board`, where it is a frame's fault: an impl names its types.
 impl From<(u8, BoardFault)> for GroupFault {
     ghost from_gives = { λ e r. r ≡ Board e.0 e.1 };
 

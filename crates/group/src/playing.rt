@@ -35,7 +35,7 @@ impl<R: FailureRule> Group<R> {
         Ok(turn)
     }
 
-    // Takes a word that `from` has posted to `to`, which counts it.
+    // Takes a word that `from` has posted to `to`, which counts it. Numbers of any size, so that a bad one gets its refusal.
     pub fn carry(&mut self, to: u16, from: u16, kind: u16, value: u16) -> Result<Turn, GroupFault>
         ensures same { (self.new.rule ≡ self.old.rule) × (self.new.terms ≡ self.old.terms) }
         ensures plays { Plays (R.meaning self.old.rule) self.old.terms (carrying to from kind value) self.old.records self.new.records result }

@@ -14,7 +14,7 @@ pub enum By {
 
 // The numbers are the listed sets, and then the character that each board starts from. They stay in one list, which `by` parts: either may be
 // as long as a line allows, so that two lists would take twice the room. Characters go from 1 to `characters`; `listed` is the set of boards
-// listed bad.
+// listed bad. All are the numbers of the line, in range or not, so that a bad one gets its refusal.
 #[derive(Clone, Copy)]
 pub struct Plan {
     pub method: Method,

@@ -1,4 +1,4 @@
-// What is read off the senders of one kind of word.
+// What is read off the senders of one kind of word. 0 stands for no character, as in the branch that is made of it and in the words that bear it.
 ghost use Rattle.std.specs.Prelude.{◌≡◌, ◌<◌, ◌≤◌, false};
 ghost use Rattle.heard.specs.declared.tally.Tally.{Tally};
 ghost use Rattle.plain_board.specs.Limits.{max_value};

@@ -19,6 +19,7 @@ pub enum EitherRule {
     Listed(ListedRule),
 }
 
+// Two calls, and no one over the kind: each kind is asked for by other numbers.
 impl EitherRule {
     pub fn count(crew: u16, cover: u16, f: u16) -> Result<EitherRule, RuleFault>
         ensures { Made (count_fault crew cover f) (count_rule crew cover f) either_rule result }

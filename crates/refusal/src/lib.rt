@@ -46,6 +46,7 @@ impl Refusal {
         }
     }
 
+    // By ranges of numbers: the faults themselves are told in the crates above, so no conversion of theirs could say it.
     pub fn layer(&self) -> Layer
         ensures { result ≡ layer_of self.now.number }
     {

@@ -6,6 +6,7 @@ ghost use Rattle.session.specs.Letters.{opening_letter, letter_text};
 use lines::By;
 use std::fmt;
 
+// One case is for a line that cannot be read, and no `None`: each answer begins with a letter, that one with a question mark.
 #[derive(Clone, Copy, PartialEq, Eq, Debug)]
 pub enum Letter {
     // no call can be read

@@ -14,6 +14,7 @@ use lines::{By, Plan};
 use quorum::{EitherRule, MAX_CREW, RuleFault};
 use vote::{MAX_CHARACTERS, Method};
 
+// The cover that the line's rule is to have. A rule of sessions, and no conversion: a method by itself has no cover.
 fn cover(method: Method) -> u16
     ensures { result ≡ cover_of method }
 {

@@ -8,7 +8,7 @@ use crate::Decision;
 pub const NOTHING: Decision = Decision { value: 0, grade: 0 };
 
 impl Decision {
-    // A character has the grade, and no character has none.
+    // A character has the grade, and no character has none. A grade is a number: how far apart decisions are is counted by it.
     pub fn graded(grade: u8, value: u8) -> Decision
         ensures { result ≡ decision_on grade value }
     {

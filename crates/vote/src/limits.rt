@@ -3,7 +3,7 @@
 // The most characters. 0 stands for no character.
 pub const MAX_CHARACTERS: u8 = 8;
 
-// How many values there are: 0 and the characters.
+// How many values there are: 0 and the characters. `wire` has its own name for this, and for the kinds: neither crate builds on the other.
 pub const VALUES: usize = 9;
 
 // How many kinds of votes there are.

@@ -16,7 +16,7 @@ const VALUES: u8 = MAX_VALUE as u8 + 1;
 const VALUE_SETS: u16 = 1 << VALUES;
 
 impl Posted {
-    // Puts the frames of one kind at the front, by value, and answers how many bytes they have.
+    // Puts the frames of one kind, a number as in a Word, at the front, by value, and answers how many bytes they have.
     fn put_kind(&self, kind: u8, buf: &mut [u8]) -> usize
         requires kind { (1 ≤ kind) × (kind ≤ 5) }
         requires room { length (flat_map frame_of (words_of_kind self.now kind)) ≤ length buf.old }

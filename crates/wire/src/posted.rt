@@ -33,7 +33,7 @@ impl Posted {
         }
     }
 
-    // The word of this kind and value that the board posts of the change.
+    // The word of this kind and value that the board posts of the change. They stay numbers, as in a Word: a slip asks of any whether a frame can carry them.
     pub(crate) fn word(&self, kind: u8, value: u8) -> Word
         ensures { result ≡ word_of self.now kind value }
     {
