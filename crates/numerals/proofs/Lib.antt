@@ -1,3 +1,2 @@
 pub mod Reading
 pub mod Meaning
-pub mod Commas
