@@ -2,9 +2,9 @@
 use Rattle.std.proofs.Common.{◌≡◌, ℕ, zero, suc, ◌+◌, ◌-◌, ◌*◌, ◌/◌, ◌%◌, ◌^◌, ◌<◌, ◌≤◌, Bool, true, false, cond, not, ◌&&◌, ◌||◌, eqb, sym, refl, ap, ◌∙◌, ⊎_elim, pow-suc, add-one, arith}
 use lib.Bits.{bit_or, bit_and}
 use Rattle.std.proofs.lemmas.Nat.{mod-pow-add}
-use Rattle.std.proofs.lemmas.Bool.{ne_eqb, cases_lt, false_from_ne_true}
+use Rattle.std.proofs.lemmas.Bool.{ne_eqb, cases_lt}
 use Rattle.quorum.specs.Sets.{member, set_of, rest}
-use Rattle.quorum.specs.Members.{member_or, member_and, member_bit, member_ext, member_lt, member_set_of, member_beyond}
+use Rattle.quorum.specs.Members.{member_or, member_and, member_bit, member_ext, member_set_of, member_beyond}
 
 -- s is the set of the boards below n that pass p, if it has just those and none from n up
 pub set_of_is : (n s : ℕ) (p : ℕ → Bool) → ((i : ℕ) → i < n → member i s ≡ p i) → ((i : ℕ) → n ≤ i → member i s ≡ false) → set_of n p ≡ s
@@ -30,18 +30,10 @@ set_of_insert n p j l =
     set_of_is n _ _ (λ i h. member_or i (set_of n p) (2 ^ j) ∙ rw (member_set_of n p i h, member_bit i j))
     (λ i h. member_or i (set_of n p) (2 ^ j) ∙ rw (member_beyond n p i h, member_bit i j, ne_eqb j i (omega arith)))
 
--- a number below 2 to the power n is the set of its members
-pub set_of_member : (n s : ℕ) → s < 2 ^ n → set_of n (λ i. member i s) ≡ s
-set_of_member n s l = set_of_is n s _ (λ i h. refl) (λ i h. false_from_ne_true _ (λ e. let k = member_lt n s i l e in omega arith))
-
-bit_le : (b : Bool) → cond b 1 0 ≤ 1
+-- what a test adds to a number
+pub bit_le : (b : Bool) → cond b 1 0 ≤ 1
 bit_le true = omega arith
 bit_le false = omega arith
-
-pub set_of_below : (n : ℕ) (p : ℕ → Bool) → set_of n p < 2 ^ n
-unfolding set_of
-set_of_below zero p = omega arith
-set_of_below (suc n) p = let e = set_of_below n (λ i. p (suc i)) in let q = pow-suc 2 n in omega (arith, bit_le (p 0))
 
 bit_not : (b : Bool) → cond b 1 0 + cond (not b) 1 0 ≡ 1
 bit_not true = refl
@@ -57,7 +49,7 @@ pub set_of_not : (n : ℕ) (p : ℕ → Bool) → set_of n (λ i. not (p i)) ≡
 set_of_not n p = let e = both n p in omega arith
 
 -- ---- the boards that pass one test and not another
-bit_split : (b c : Bool) → cond b 1 0 ≡ cond (b && c) 1 0 + cond (b && not c) 1 0
+pub bit_split : (b c : Bool) → cond b 1 0 ≡ cond (b && c) 1 0 + cond (b && not c) 1 0
 bit_split true true = refl
 bit_split true false = refl
 bit_split false c = refl
@@ -87,11 +79,3 @@ set_of_low (suc n) s =
 pub rest_is : (n s : ℕ) → rest n s ≡ 2 ^ n - 1 - s % 2 ^ n
 unfolding rest
 rest_is n s = set_of_not n (λ i. member i s) ∙ ap (λ (x : ℕ). 2 ^ n - 1 - x) (set_of_low n s)
-
-pub rest_set_of : (n : ℕ) (p : ℕ → Bool) → rest n (set_of n p) ≡ set_of n (λ i. not (p i))
-unfolding rest
-rest_set_of n p = set_of_ext n _ _ (λ i h. ap not (member_set_of n p i h))
-
-pub rest_lt : (n s : ℕ) → rest n s < 2 ^ n
-unfolding rest
-rest_lt n s = set_of_below n (λ i. not (member i s))

@@ -14,10 +14,6 @@ below_pow zero = lit< tt
 below_pow (suc n) = let ih = below_pow n in omega (arith, pow-suc 2 n)
 
 -- ---- the definitions, as equations
-pub strong_is : (R : Rule) (s : ℕ) → strong R s ≡ not (R.fails s)
-unfolding strong
-strong_is R s = refl
-
 pub ample_is : (R : Rule) (s : ℕ) → R.crew ≤ max_crew → ample R s ≡ R.fails (rest R.crew s)
 unfolding ample
 ample_is R s small = ap (λ (b : Bool). b && R.fails (rest R.crew s)) (le-leb R.crew max_crew small)

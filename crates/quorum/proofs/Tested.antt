@@ -1,15 +1,10 @@
 -- The facts about strong and ample sets once more, for sets that are given by a test on the boards of the crew. Assumes nothing.
-use Rattle.std.proofs.Common.{◌≡◌, ℕ, ◌<◌, ◌≤◌, Bool, true, false, not, sym, ap, ◌∙◌}
+use Rattle.std.proofs.Common.{◌≡◌, ℕ, ◌<◌, ◌≤◌, Bool, true, false, sym, ◌∙◌}
 use Rattle.quorum.specs.Limits.{max_crew}
 use Rattle.quorum.specs.Sets.{member, set_of}
 use Rattle.quorum.specs.Rules.{Rule, Lawful, strong_by, ample_by}
 use Rattle.quorum.specs.Members.{member_set_of, member_below}
-use Rattle.quorum.proofs.Masks.{rest_set_of}
-use Rattle.quorum.proofs.Sharing.{ample_is, strong_outside, strong_grows, ample_meet, ample_meet_outside, ample_outside_strong, split_strong, ample_grows, outside_ample}
-
--- ampleness by a test is the failing of the boards that do not pass
-pub ample_by_is : (R : Rule) (p : ℕ → Bool) → R.crew ≤ max_crew → ample_by R p ≡ R.fails (set_of R.crew (λ i. not (p i)))
-ample_by_is R p small = ample_is R (set_of R.crew p) small ∙ ap R.fails (rest_set_of R.crew p)
+use Rattle.quorum.proofs.Sharing.{strong_outside, strong_grows, ample_meet, ample_meet_outside, ample_outside_strong, split_strong, ample_grows, outside_ample}
 
 module _ {R : Rule} (law : Lawful R) where
   in_set : (p : ℕ → Bool) (i : ℕ) → i < R.crew → p i ≡ true → member i (set_of R.crew p) ≡ true
