@@ -1,7 +1,6 @@
 -- What a field is, from the number and the length of its run of digits. Assumes nothing.
 use Rattle.std.proofs.Common.{◌≡◌, ℕ, ◌+◌, ◌-◌, ◌<◌, ◌≤◌, true, false, cond, eqb, leb, ltb, List, [], ◌∷◌, length, take, drop, Some, None, Ok, Err, Option, sym, ap, ◌∙◌, arith}
-use Rattle.std.proofs.lemmas.List.Sums.{prefix_len-le-length}
-use Rattle.std.proofs.lemmas.List.{length-drop, take_rest}
+use Rattle.std.proofs.lemmas.List.{take_rest}
 use Rattle.std.proofs.lemmas.Bool.{cond-true, cond-false, eq-eqb, eqb-true, ne_eqb, lt-leb, ltb-false, and_parts, and_right}
 use Rattle.std.proofs.lemmas.Option.{cond_some}
 use Rattle.wire.specs.Faults.{fault}
@@ -35,9 +34,6 @@ module _ (xs : List ℕ) (p low high : ℕ) where
 
       long : run (drop p xs) ≡ len
       long = ap (λ x. x.1) parts
-
-      pub run_inside : p ≤ length xs → p + len ≤ length xs
-      run_inside le = omega (arith, long, prefix_len-le-length is_digit (drop p xs), length-drop p xs)
 
       pub field_none : len ≡ 0 → Err (fault 11 p) ≡ field_at xs p low high
       unfolding field_at

@@ -8,7 +8,7 @@ use Rattle.wire.specs.declared.word.Word.{Word}
 use Rattle.wire.specs.Fields.{is_digit, is_within, stands, and_then, field_at, after_byte}
 use Rattle.wire.specs.Frames.{field_bytes, frame_of, ended_field, frame_at, word_in, carried}
 use Rattle.wire.specs.Limits.{max_id, max_sender, max_kind, max_value, frame_max, comma, line_feed}
-use Rattle.wire.proofs.Outcomes.{ok_when, ok_then, ok_same}
+use Rattle.wire.proofs.Outcomes.{ok_when, ok_then}
 use Rattle.wire.proofs.FieldText.{field_reads, field_is}
 
 module _ (xs : List ℕ) (q b : ℕ) where
@@ -49,7 +49,7 @@ ended_is xs p low high end x fits so =
     let s = ok_then (field_at xs p low high) _ x so in
     let f = s.0 in
     let t = ok_then (after_byte xs f.1 end) _ x s.2 in
-    let is : (f.0, t.0) ≡ x = ok_same (f.0, t.0) x t.2 in
+    let is : (f.0, t.0) ≡ x = cc (t.2) in
     let number_is : f.0 ≡ x.0 = ap (λ y. y.0) is in
     let place_is : t.0 ≡ x.1 = ap (λ y. y.1) is in
     let digits = field_is xs p f.0 low high f.1 fits s.1 in
@@ -200,7 +200,7 @@ frame_is xs p x so =
     let s = ok_then (ended_field xs c.0.1 0 max_sender comma) _ x c.2 in
     let k = ok_then (ended_field xs s.0.1 1 max_kind comma) _ x s.2 in
     let v = ok_then (ended_field xs k.0.1 0 max_value line_feed) _ x k.2 in
-    let is : (read_word xs p g.0 c.0 s.0 k.0 v.0, v.0.1) ≡ x = ok_same (read_word xs p g.0 c.0 s.0 k.0 v.0, v.0.1) x v.2 in
+    let is : (read_word xs p g.0 c.0 s.0 k.0 v.0, v.0.1) ≡ x = cc (v.2) in
     subst (λ (y : Word × ℕ). Ranges y.0 × (drop p xs ≡ frame_of y.0 ++ drop y.1 xs) × (y.1 ≡ p + length (frame_of y.0))) {x = (read_word xs p g.0 c.0 s.0 k.0 v.0, v.0.1)} is
     (fields_are xs p g.0 c.0 s.0 k.0 v.0 g.1 c.1 s.1 k.1 v.1)
 

@@ -3,12 +3,6 @@ use Rattle.std.proofs.Common.{◌≡◌, Bool, true, false, cond, Some, None, Ok
 use Rattle.wire.specs.Fields.{and_then}
 
 module _ {X E : Type 0} where
-  pub ok_not_err : (x : X) (f : E) {P : Type 0} → Ok x ≡ Err f → P
-  ok_not_err x f e = cc
-
-  pub ok_same : (x y : X) → ◌≡◌ {A = Result X E} (Ok x) (Ok y) → x ≡ y
-  ok_same x y e = cc
-
   -- past a test that refuses
   pub ok_unless : (b : Bool) (f : E) (r : Result X E) (x : X) → cond b (Err f) r ≡ Ok x → (b ≡ false) × (r ≡ Ok x)
   ok_unless true f r x e = cc

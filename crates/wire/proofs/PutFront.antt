@@ -1,7 +1,7 @@
 -- Bytes put over the front of a buffer, one part after the other, and zero bytes behind them. Assumes nothing.
 use Rattle.std.proofs.Common.{◌≡◌, ℕ, ◌+◌, ◌-◌, ◌<◌, ◌≤◌, List, [], ◌∷◌, ◌++◌, length, get_or, take, drop, set, replicate, sym, refl, ap, ◌∙◌, ap₂, ⊎_elim, arith}
 use Rattle.std.proofs.lemmas.Bool.{cases_lt}
-use Rattle.std.proofs.lemmas.List.{append_assoc, append-nil, length-append, length_push, length-drop, length-take-le, take_rest, drop_all, length-replicate, get_or-append_right, get_or-replicate, get_or_past, take_at, drop_at, drop-drop, drop_more, set_at}
+use Rattle.std.proofs.lemmas.List.{append_assoc, append-nil, length-append, length_push, length-drop, take_rest, drop_all, length-replicate, get_or-append_right, get_or-replicate, get_or_past, take_at, drop_at, drop-drop, drop_more, set_at}
 use Rattle.std.proofs.lemmas.Slice.{take-put_mid_below}
 use borrow.Rule.Slice.PartMut.{put_mid, post_of}
 use Rattle.wire.specs.Writes.{put_front, zero_filled}
@@ -23,13 +23,6 @@ put_byte n b a old long room =
 
 nothing_behind : (n : ℕ) (buf : List ℕ) → post_of n (length buf - n) buf ≡ []
 nothing_behind n buf = drop_all (length buf - n) (drop n buf) (omega (arith, length-drop n buf))
-
--- a call that gets the rest of the buffer leaves its length
-pub length_behind : (n : ℕ) (buf part : List ℕ) → n ≤ length buf → length part ≡ length (take (length buf - n) (drop n buf)) → length (put_mid n (length buf - n) buf part) ≡ length buf
-length_behind n buf part inside same =
-    ap (λ l. length (take n buf ++ (part ++ l))) (nothing_behind n buf)
-    ∙ length-append (take n buf) (part ++ [])
-    ∙ omega (arith, ap length (append-nil part), ap length (take_rest buf n), length-drop n buf, length-take-le n buf inside)
 
 -- what such a call has to write to
 pub room_behind : (n m : ℕ) (buf : List ℕ) → n + m ≤ length buf → m ≤ length (take (length buf - n) (drop n buf))
@@ -66,9 +59,6 @@ module _ (n : ℕ) (bytes old buf part : List ℕ) (long : n ≡ length bytes) (
 
 -- bytes at the front of a buffer, and zero bytes behind them
 module _ (bytes : List ℕ) where
-  pub front_filled : (room : ℕ) → take (length bytes) (zero_filled bytes room) ≡ bytes
-  front_filled room = take_at bytes (replicate (room - length bytes) 0) (length bytes) refl
-
   pub zero_behind : (room k : ℕ) → length bytes ≤ k → get_or (zero_filled bytes room) k 0 ≡ 0
   zero_behind room k le =
       let zeros : List ℕ = replicate (room - length bytes) 0 in

@@ -13,7 +13,6 @@ use Rattle.wire.specs.declared.word.Word.{Word}
 use Rattle.wire.specs.Frames.{carried}
 use Rattle.wire.specs.Slips.{has, holds, word_of, words_of_kind, words_of, none_posted, with_word, OneMore, ReadsBack, frames_of, addressed, mapped}
 use Rattle.wire.specs.Writes.{unless}
-use Rattle.wire.proofs.Outcomes.{ok_same, ok_not_err}
 use Rattle.wire.specs.Limits.{max_kind, max_value, frame_max}
 use Rattle.wire.proofs.Counting.{frames_weigh}
 use Rattle.wire.proofs.FrameText.{Ranges, carried_ranges, ranges_carried, frame_max_length, word_reads}
@@ -76,6 +75,6 @@ word_added p kind value low high five k v l h = ⊎_elim
 
 -- a slip that is made with no words holds none
 pub made_empty : (r : Result Slip FrameFault) (o : Option FrameFault) (p : Posted) → mapped (λ s. s.posted) r ≡ unless o (Ok p) → words_of p ≡ [] → IfOk r (λ s. words_of s.posted ≡ [])
-made_empty (Ok s) None p e none = ap words_of (ok_same s.posted p e) ∙ none
-made_empty (Ok s) (Some f) p e none = ok_not_err s.posted f e
+made_empty (Ok s) None p e none = let is : s.posted ≡ p = cc in ap words_of is ∙ none
+made_empty (Ok s) (Some f) p e none = cc
 made_empty (Err d) o p e none = tt

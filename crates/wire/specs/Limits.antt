@@ -1,5 +1,5 @@
 -- The largest number of each field of a frame, the bytes between fields, and the longest frame. Assumes nothing.
-use Rattle.std.specs.Prelude.{ℕ}
+use Rattle.std.specs.Prelude.{ℕ, ◌≤◌}
 
 -- of a group and of a change
 abbrev pub max_id : ℕ
@@ -10,6 +10,9 @@ max_sender = 15
 
 abbrev pub max_kind : ℕ
 max_kind = 5
+
+abbrev pub IsKind : ℕ → Type 0
+IsKind k = (1 ≤ k) × (k ≤ max_kind)
 
 abbrev pub max_value : ℕ
 max_value = 8

@@ -1,7 +1,8 @@
 // The frames of the words that a board has posted, put one after the other.
-ghost use Rattle.std.specs.Prelude.{◌≡◌, ℕ, ◌≤◌, length};
+ghost use Rattle.std.specs.Prelude.{◌≡◌, ◌≤◌, length};
 ghost use Rattle.std.specs.List.{flat_map};
 ghost use Rattle.wire.specs.Frames.{frame_of};
+ghost use Rattle.wire.specs.Limits.{IsKind};
 ghost use Rattle.wire.specs.Slips.{words_of, words_of_kind, frames_of};
 ghost use Rattle.wire.specs.Writes.{put_front};
 
@@ -18,7 +19,7 @@ const VALUE_SETS: u16 = 1 << VALUES;
 impl Posted {
     // Puts the frames of one kind, a number as in a Word, at the front, by value, and answers how many bytes they have.
     fn put_kind(&self, kind: u8, buf: &mut [u8]) -> usize
-        requires kind { (1 ≤ kind) × (kind ≤ 5) }
+        requires kind { IsKind kind }
         requires room { length (flat_map frame_of (words_of_kind self.now kind)) ≤ length buf.old }
         ensures value { result ≡ length (flat_map frame_of (words_of_kind self.now kind)) }
         ensures buffer { buf.new ≡ put_front (flat_map frame_of (words_of_kind self.now kind)) buf.old }

@@ -1,5 +1,5 @@
 // The words that one board has posted of one change, as a set.
-ghost use Rattle.std.specs.Prelude.{◌≡◌, ℕ, ◌≤◌};
+ghost use Rattle.std.specs.Prelude.{◌≡◌, ◌≤◌};
 
 use crate::limits::MAX_KIND;
 use crate::word::Word;
@@ -19,6 +19,7 @@ pub struct Posted {
 }
 
 impl Posted {
+    ghost use Rattle.wire.specs.Limits.{IsKind};
     ghost use Rattle.wire.specs.Slips.{word_of, none_posted, emptied, with_word, OneMore};
 
     // Nothing posted yet.
@@ -48,7 +49,8 @@ impl Posted {
 
     // Posts the word of this kind and value too.
     pub(crate) fn post(&mut self, kind: u8, value: u8)
-        requires { (1 ≤ kind) × ((kind ≤ 5) × (value ≤ 8)) }
+        requires kind { IsKind kind }
+        requires value { value ≤ 8 }
         ensures value { self.new ≡ with_word self.old kind value }
         ensures one_more { OneMore self.old self.new kind value }
     {
