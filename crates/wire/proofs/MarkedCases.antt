@@ -17,7 +17,7 @@ unfolding given wanted word_in ended_field field_at
 answered = refl
 
 pub marked_cases_hold : MarkedCasesHold
-unfolding given wanted
+unfolding given wanted MarkedCasesHold
 marked_cases_hold i h =
     let is : given (get_or marked i ([], 0, [])) ≡ wanted (get_or marked i ([], 0, [])) =
     sym (get_or-map given marked i ([], 0, []) (0, []) h)

@@ -80,14 +80,6 @@ pub record Filling (done old : List ℕ) (left : List (List ℕ)) (n : ℕ) (buf
   pub room : length done + bytes_in left ≤ length old
 
 module _ {done old part : List ℕ} {left : List (List ℕ)} {n : ℕ} {buf : List ℕ} (so : Filling done old (part ∷ left) n buf) where
-  same_room : length buf ≡ length old
-  same_room = let r : length done + (length part + bytes_in left) ≤ length old = so.room in ap length so.is ∙ length_put done old (omega arith)
-
-  pub filling_room : length part ≤ length (take (length buf - n) (drop n buf))
-  filling_room =
-      let r : length done + (length part + bytes_in left) ≤ length old = so.room in
-      room_behind n (length part) buf (omega (arith, same_room, so.long))
-
   pub filling_more : {m : ℕ} {new : List ℕ} → m ≡ length part → new ≡ put_front part (take (length buf - n) (drop n buf)) → Filling (done ++ part) old left (n + m) (put_mid n (length buf - n) buf new)
   filling_more {m} {new} put_long put =
       let r : length done + (length part + bytes_in left) ≤ length old = so.room in

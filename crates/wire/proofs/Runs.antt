@@ -1,7 +1,7 @@
 -- The longest run of digits: one step of a loop over it, and where the loop stops. Assumes nothing.
-use Rattle.std.proofs.Common.{◌≡◌, ℕ, zero, suc, ◌+◌, ◌-◌, ◌*◌, ◌<◌, ◌≤◌, true, false, List, [], ◌∷◌, length, get_or, take, drop, fold, ltb, Some, None, sym, ap, ◌∙◌, ap₂, take-take, arith}
-use Rattle.std.proofs.lemmas.Bool.{cond-true, cond-false, lt-ltb, le-ltb, ltb-false}
-use Rattle.std.proofs.lemmas.List.Sums.{fold_more, prefix_len-drop_yes, prefix_len-drop_no, prefix_len-drop_all}
+use Rattle.std.proofs.Common.{◌≡◌, ℕ, zero, suc, ◌+◌, ◌-◌, ◌*◌, ◌<◌, ◌≤◌, true, List, [], ◌∷◌, length, get_or, take, drop, fold, ltb, None, sym, ap, take-take, arith}
+use Rattle.std.proofs.lemmas.Bool.{cond-false, le-ltb, ltb-false}
+use Rattle.std.proofs.lemmas.List.Sums.{fold_more, prefix_len-drop_yes}
 use Rattle.wire.specs.Fields.{is_digit, run, value_of, number, within_16_bits, digits}
 use Rattle.wire.proofs.Outcomes.{not_held}
 
@@ -17,18 +17,6 @@ value_le (suc i) n (d ∷ ds) = value_le i (n * 10 + (d - 48)) ds
 
 -- after i digits: v is the number so far, and i of the run's bytes are passed
 module _ (xs : List ℕ) (i v : ℕ) (so : v ≡ value_of (take i xs)) (left : i + run (drop i xs) ≡ run xs) where
-  found : v < 65536 → run (drop i xs) ≡ 0 → Some (v, i) ≡ digits xs
-  found fits none =
-      let place : i ≡ run xs = omega arith in
-      let value : v ≡ number xs = so ∙ ap (λ k. value_of (take k xs)) place in
-      ap₂ (λ n k. Some (n, k)) value place ∙ sym (cond-true (ltb (number xs) 65536) _ _ (lt-ltb (number xs) 65536 (omega arith)))
-
-  pub stops : v < 65536 → i < length xs → is_digit (get_or xs i 0) ≡ false → Some (v, i) ≡ digits xs
-  stops fits h e = found fits (prefix_len-drop_no is_digit xs i 0 h e)
-
-  pub ends : v < 65536 → length xs ≤ i → Some (v, i) ≡ digits xs
-  ends fits h = found fits (prefix_len-drop_all is_digit xs i h)
-
   pub goes : i < length xs → is_digit (get_or xs i 0) ≡ true → (v * 10 + (get_or xs i 0 - 48) ≡ value_of (take (i + 1) xs)) × (i + 1 + run (drop (i + 1) xs) ≡ run xs)
   goes h e = (
     omega (arith, fold_more (λ a d. a * 10 + (d - 48)) 0 xs i 0 h),

@@ -21,3 +21,5 @@ width_four n l h = more 3 n (omega arith) (omega arith) (width_three (n / 10) (o
 
 pub width_five : (n : ℕ) → 10000 ≤ n → n < 65536 → length (decimal n) ≡ 5
 width_five n l h = more 4 n (omega arith) h (width_four (n / 10) (omega arith) (omega arith))
+
+pub ruleset widths = (width_one, width_two, width_three, width_four, width_five)

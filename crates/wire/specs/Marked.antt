@@ -28,7 +28,7 @@ marked =
     ∷ ([], 0, 11 ∷ 0 ∷ [])
     ∷ []
 
-abbrev pub MarkedCasesHold : Type 0
+unfoldable pub MarkedCasesHold : Type 0
 MarkedCasesHold =
     (i : ℕ) → i < length marked
     → (length (slice_index_or marked i ([], 0, [])).0 ≡ (slice_index_or marked i ([], 0, [])).1)

@@ -49,6 +49,7 @@ impl<'a> Reader<'a> {
 }
 
 // The word that the bytes carry, which are one frame and nothing more.
+#[tactic(auto, using(crate::proofs::MarkedCases::marked_cases_hold), unfolding(crate::specs::Frames::word_in))]
 pub fn read_frame(bytes: &[u8]) -> Result<Word, FrameFault>
     ensures value { result ≡ word_in bytes.now }
     ensures an_accepted_frame_is_the_one_its_word_has { IfOk result (λ w. (carried w ≡ true) × (bytes.now ≡ frame_of w)) }

@@ -18,6 +18,7 @@ const VALUE_SETS: u16 = 1 << VALUES;
 
 impl Posted {
     // Puts the frames of one kind, a number as in a Word, at the front, by value, and answers how many bytes they have.
+    #[tactic(auto, using(crate::proofs::Counting::none_of_kind))]
     fn put_kind(&self, kind: u8, buf: &mut [u8]) -> usize
         requires kind { IsKind kind }
         requires room { length (flat_map frame_of (words_of_kind self.now kind)) ≤ length buf.old }

@@ -6,6 +6,7 @@ ghost use Rattle.wire.specs.Writes.{put_front};
 use itoa::write_digits;
 
 // How many digits the number has.
+#[tactic(auto, using(crate::proofs::Widths::widths))]
 pub(crate) fn width(number: u16) -> usize
     ensures value { result ≡ length (decimal number) }
     ensures bound { result ≤ 5 }
@@ -21,6 +22,7 @@ pub(crate) fn width(number: u16) -> usize
 }
 
 // Puts the number and the byte that ends its field at the front, and answers how many bytes they are.
+#[tactic(auto, using(crate::proofs::PutFront::put_byte, std::proofs::lemmas::List::length_push))]
 pub(crate) fn put_field(number: u16, end: u8, buf: &mut [u8]) -> usize
     requires { length (field_bytes number end) ≤ length buf.old }
     ensures value { result ≡ length (field_bytes number end) }

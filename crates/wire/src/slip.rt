@@ -61,6 +61,7 @@ impl Slip {
 
     // Writes the frames, by kind and then value, and then zero bytes to the end of the buffer, and empties the slip;
     // answers how many bytes the frames have. Or refuses, and leaves the buffer and the slip as they were.
+    #[tactic(auto, using(crate::proofs::Slipped::frames_short, crate::proofs::Counting::words_le, crate::proofs::Slipped::same_address, crate::proofs::Slipped::none_posted_none, crate::proofs::Slipped::reads_back))]
     pub fn write(&mut self, buf: &mut [u8]) -> Result<usize, FrameFault>
         ensures value { result ≡ fitting (frames_of self.old.posted) (length buf.old) }
         ensures buffer { buf.new ≡ buffer_after (frames_of self.old.posted) result buf.old }

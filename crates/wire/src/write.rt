@@ -10,6 +10,7 @@ use crate::number::{put_field, width};
 use crate::word::Word;
 
 // How many bytes the word's frame has.
+#[tactic(auto, using(crate::proofs::FrameText::frame_length, std::proofs::lemmas::List::length_push))]
 pub(crate) fn frame_len(word: Word) -> usize
     ensures value { result ≡ length (frame_of word) }
     ensures bound { result ≤ 30 }
@@ -24,6 +25,7 @@ pub(crate) fn frame_len(word: Word) -> usize
 }
 
 // Puts the word's frame at the front, and answers how many bytes it has.
+#[tactic(auto, using(crate::proofs::FrameText::frame_length))]
 pub(crate) fn put_frame(word: Word, buf: &mut [u8]) -> usize
     requires { length (frame_of word) ≤ length buf.old }
     ensures value { result ≡ length (frame_of word) }
@@ -63,6 +65,7 @@ pub(crate) fn check_ranges(word: Word) -> Result<(), FrameFault>
 
 // Writes the word's frame and then zero bytes to the end of the buffer, and answers the frame's length;
 // or refuses, and leaves the buffer as it was.
+#[tactic(auto, using(crate::proofs::FrameText::word_reads, crate::proofs::FrameText::frame_max_length, crate::proofs::Ranging::passed_ranges, crate::proofs::PutFront::front_kept))]
 pub fn write_word(word: Word, buf: &mut [u8]) -> Result<usize, FrameFault>
     ensures value { result ≡ word_written word (length buf.old) }
     ensures buffer { buf.new ≡ buffer_after (frame_of word) result buf.old }

@@ -5,7 +5,7 @@ use Rattle.wire.specs.Limits.{comma, line_feed}
 use Rattle.wire.specs.Frames.{field_bytes, frame_of}
 use Rattle.wire.specs.Writes.{put_front}
 use Rattle.wire.proofs.FrameText.{frame_length}
-use Rattle.wire.proofs.PutFront.{Filling, filling_room, filling_more}
+use Rattle.wire.proofs.PutFront.{Filling, filling_more}
 use Rattle.wire.proofs.write.put_frame.Goals as goal
 
 -- after the first field, the four others are left
@@ -13,33 +13,6 @@ first :
     (w : Word) (old : List ℕ) (n : ℕ) (buf : List ℕ) → length (frame_of w) ≤ length old → n ≡ length (field_bytes w.group comma) → buf ≡ put_front (field_bytes w.group comma) old
     → Filling (field_bytes w.group comma) old (field_bytes w.change comma ∷ field_bytes w.sender comma ∷ field_bytes w.kind comma ∷ field_bytes w.value line_feed ∷ []) n buf
 first w old n buf fits long is = record { long = long; is = is; room = omega (arith, frame_length w) }
-
-pub put_field-change-requires : goal.put_field-change-requires
-put_field-change-requires c = omega (arith, frame_length c.args.word)
-
-pub put_field-requires : goal.put_field-requires
-put_field-requires c = filling_room (first c.args.word c.args.buf.now _ _ c.requires c.put_field-change.ensures.value c.put_field-change.ensures.buffer)
-
-pub put_field-requires-2 : goal.put_field-requires-2
-put_field-requires-2 c =
-    let a = first c.args.word c.args.buf.now _ _ c.requires c.put_field-change.ensures.value c.put_field-change.ensures.buffer in
-    filling_room (filling_more a c.put_field.ensures.value c.put_field.ensures.buffer)
-
-pub put_field-requires-3 : goal.put_field-requires-3
-put_field-requires-3 c =
-    let a = first c.args.word c.args.buf.now _ _ c.requires c.put_field-change.ensures.value c.put_field-change.ensures.buffer in
-    let b = filling_more a c.put_field.ensures.value c.put_field.ensures.buffer in
-    filling_room (filling_more b c.put_field-2.ensures.value c.put_field-2.ensures.buffer)
-
-pub put_field-requires-4 : goal.put_field-requires-4
-put_field-requires-4 c =
-    let a = first c.args.word c.args.buf.now _ _ c.requires c.put_field-change.ensures.value c.put_field-change.ensures.buffer in
-    let b = filling_more a c.put_field.ensures.value c.put_field.ensures.buffer in
-    let d = filling_more b c.put_field-2.ensures.value c.put_field-2.ensures.buffer in
-    filling_room (filling_more d c.put_field-3.ensures.value c.put_field-3.ensures.buffer)
-
-pub returns-clause-value : goal.returns-clause-value
-returns-clause-value c = omega (arith, frame_length c.args.word)
 
 pub returns-clause-buffer : goal.returns-clause-buffer
 unfolding frame_of

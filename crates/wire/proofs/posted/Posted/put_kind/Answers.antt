@@ -1,17 +1,12 @@
-use Rattle.std.proofs.Common.{◌≡◌, ℕ, ◌-◌, ◌≤◌, List, [], length, take, drop, sym, ap, ◌∙◌, subst, arith}
+use Rattle.std.proofs.Common.{◌≡◌, ℕ, ◌-◌, ◌≤◌, List, length, take, drop, sym, ap, ◌∙◌, subst, arith}
 use Rattle.std.specs.List.{flat_map}
 use Rattle.wire.specs.Frames.{frame_of}
 use Rattle.wire.specs.Slips.{if_held, words_of_kind}
 use Rattle.wire.specs.Writes.{put_front}
-use Rattle.wire.proofs.Counting.{none_of_kind, held_frame, none_held}
+use Rattle.wire.proofs.Counting.{held_frame, none_held}
 use Rattle.wire.proofs.InOrder.{PuttingFront, putting_room, putting_behind, putting_none}
 use Rattle.wire.proofs.posted.Posted.put_kind.Goals as goal
 use Rattle.wire.proofs.posted.Posted.put_kind.Goals.{then-values-value-eq1, else-values-value-eq1}
-
-pub returns-then-values-eq0 : goal.returns-then-values-eq0
-returns-then-values-eq0 c =
-    let none : flat_map frame_of (words_of_kind c.args.self.now c.args.kind) ≡ [] = ap (flat_map frame_of) (none_of_kind c.args.self.now c.args.kind c.if-values-eq0.true) in
-    record { value = sym (ap length none); buffer = sym (ap (λ l. put_front l c.args.buf.now) none) }
 
 pub put_frame-len-requires : goal.put_frame-len-requires
 unfolding words_of_kind

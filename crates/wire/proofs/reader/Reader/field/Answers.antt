@@ -1,16 +1,8 @@
 use Rattle.std.proofs.Common.{◌≡◌, true, false, sym, ◌∙◌, arith}
 use Rattle.wire.specs.Fields.{is_within}
-use Rattle.wire.proofs.FieldRead.{field_none, field_zero, field_beyond, field_out, field_good}
+use Rattle.wire.proofs.FieldRead.{field_beyond, field_out, field_good}
 use Rattle.wire.proofs.reader.Reader.field.Goals as goal
 use Rattle.wire.proofs.reader.Reader.field.Goals.{in_default-via-in-Some+else-contains, in_default-via-in_default}
-
-pub returns-then-zero_leads-clause-value : goal.returns-then-zero_leads-clause-value
-returns-then-zero_leads-clause-value c = field_zero c.args.self.now.bytes.now c.args.self.now.place c.args.low c.args.high (sym c.zero_leads.ensures ∙ c.if-zero_leads.true)
-
-pub returns-in-Some-default-eq0-clause-value : goal.returns-in-Some-default-eq0-clause-value
-returns-in-Some-default-eq0-clause-value c =
-    let none = c.in-Some-default-eq0 in
-    field_none c.args.self.now.bytes.now c.args.self.now.place c.args.low c.args.high c.digits.result c.digits.ensures none.field-0-0 none.field-0-1 none.is none.field-0-1-test
 
 pub returns-in-Some-clause-value : goal.returns-in-Some-clause-value
 returns-in-Some-clause-value c =
