@@ -8,10 +8,15 @@ no_digit : (v b : ℕ) → (v ≡ 0) ⊎ (max_number < v * 10) → with_digit (S
 no_digit v b (inl h) = grind (arith, common_steps)
 no_digit v b (inr h) = grind (arith, common_steps)
 
--- nothing is read behind a leading zero, or a number that is too large for one digit more
-pub none_behind : (bs : List ℕ) (i v : ℕ) → i < length bs → (v ≡ 0) ⊎ (max_number < v * 10) → None ≡ number_on (Some v) (drop i bs)
+-- nothing is read behind a leading zero
+pub none_after_zero : (bs : List ℕ) (v : ℕ) → 0 < length bs → v ≡ 0 → None ≡ number_on (Some v) bs
+none_after_zero [] v l z = absurd (omega arith)
+none_after_zero (b ∷ bs) v l z = ap (λ (o : Option ℕ). and_then o (λ w. number_on (Some w) bs)) (sym (no_digit v b (inl z)))
+
+-- nor behind a number that is too large for one digit more
+pub none_behind : (bs : List ℕ) (i v : ℕ) → i < length bs → max_number < v * 10 → None ≡ number_on (Some v) (drop i bs)
 none_behind bs i v l h =
-    sym (at_drop_more (number_on (Some v)) bs i 0 l ∙ ap (λ (o : Option ℕ). and_then o (λ w. number_on (Some w) (drop (i + 1) bs))) (no_digit v (get_or bs i 0) h))
+    sym (at_drop_more (number_on (Some v)) bs i 0 l ∙ ap (λ (o : Option ℕ). and_then o (λ w. number_on (Some w) (drop (i + 1) bs))) (no_digit v (get_or bs i 0) (inr h)))
 
 -- the numbers of the parts that are left, after those of the parts before
 abbrev pub after : List ℕ → List (List ℕ) → Option (List ℕ)

@@ -14,6 +14,7 @@ fn digit(byte: u8) -> Option<u16>
 }
 
 // The number that the bytes write, if they write one.
+#[tactic(auto, using(crate::proofs::Reading::none_after_zero, crate::proofs::Reading::none_behind))]
 pub fn number(bytes: &[u8]) -> Option<u16>
     ensures { result ≡ number_in bytes.now }
 {

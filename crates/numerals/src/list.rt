@@ -6,6 +6,7 @@ use crate::digits::number;
 use std::alloc::{AllocError, Global};
 
 // The numbers that the bytes write with single commas between, if they write such.
+#[tactic(auto, using(crate::proofs::Reading::none_read))]
 pub fn numbers(heap: Global, bytes: &[u8]) -> Result<Option<Vec<u16>>, AllocError>
     ensures { IfOk result (λ o. MatchOption o (numbers_in bytes.now ≡ None) (λ v. numbers_in bytes.now ≡ Some v.items)) }
 {

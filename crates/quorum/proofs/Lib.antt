@@ -3,3 +3,4 @@ pub mod Sharing
 pub mod Tested
 pub mod Table
 pub mod Holders
+pub mod Wide

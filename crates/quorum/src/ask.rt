@@ -8,6 +8,7 @@ use crate::rule::FailureRule;
 use crate::set::outside;
 
 // Whether, whatever fails together, some board of the set does not.
+#[tactic(auto, unfolding(crate::specs::Rules::strong))]
 pub fn strong<R: FailureRule>(rule: &R, set: u16) -> bool
     ensures value { result ≡ is_strong (R.meaning rule.now) set }
     ensures facts { StrongSetsHold (R.meaning rule.now) }
@@ -16,6 +17,7 @@ pub fn strong<R: FailureRule>(rule: &R, set: u16) -> bool
 }
 
 // Whether all the boards outside the set may fail together, so that nobody need wait for more.
+#[tactic(auto, using(crate::proofs::Sharing::ample_is, crate::proofs::Sharing::ample_none))]
 pub fn ample<R: FailureRule>(rule: &R, set: u16) -> bool
     ensures value { result ≡ is_ample (R.meaning rule.now) set }
     ensures facts { AmpleSetsShare (R.meaning rule.now) }

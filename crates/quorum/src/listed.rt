@@ -30,6 +30,7 @@ fn sets_fit(crew: u8, sets: &[u16]) -> bool
 }
 
 // Whether the boards of `have` and of at most `more` of the sets are the whole crew.
+#[tactic(auto, using(crate::specs::Held::held_whole, crate::specs::Held::held_by_none))]
 fn hold_all(crew: u8, sets: &[u16], more: u8, have: u16) -> bool
     requires { crew ≤ max_crew }
     ensures { result ≡ held crew sets.now more have }

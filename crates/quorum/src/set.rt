@@ -6,6 +6,7 @@ ghost use Rattle.quorum.specs.Sets.{member, rest, part, in_crew};
 use crate::limits::MAX_CREW;
 
 // Whether the board is in the set; a board from 16 up is in none.
+#[tactic(auto, using(crate::specs::Members::member_is, crate::proofs::Wide::none_beyond))]
 pub fn has(set: u16, board: u8) -> bool
     ensures { result ≡ member board set }
 {
@@ -36,6 +37,7 @@ pub fn part(set: u16, of: u16) -> bool
 }
 
 // Whether the set has no board outside the crew; it can have none outside a crew of 16 or more.
+#[tactic(auto, using(crate::proofs::Wide::wide_crew))]
 pub fn in_crew(crew: u8, set: u16) -> bool
     ensures { result ≡ in_crew crew set }
 {

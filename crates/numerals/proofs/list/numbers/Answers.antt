@@ -1,10 +1,10 @@
 -- Each part takes the reading a step on. Assumes nothing.
-use Rattle.std.proofs.Common.{rules, tests, ℕ, eqb, ◌≡◌, ◌+◌, ◌∙◌, [], ◌∷◌, ◌++◌, length, drop, Some, None, Option, vec_items, sym, ap, ap₂, arith}
+use Rattle.std.proofs.Common.{rules, tests, ℕ, eqb, ◌≡◌, ◌+◌, ◌∙◌, [], ◌∷◌, ◌++◌, length, drop, Some, None, Option, vec_items, sym, ap₂, arith}
 use Rattle.std.proofs.lemmas.List.{length_push}
 use Rattle.std.proofs.lemmas.Iterator.Consumers.{YieldsList-turn, YieldsList-end}
 use Rattle.std.proofs.lemmas.Iterator.Splits.{YieldsList-from_slice_split}
 use Rattle.numerals.specs.Numerals.{comma, and_then, number_in, parts, numbers_in}
-use Rattle.numerals.proofs.Reading.{after, none_read, part_read, all_read}
+use Rattle.numerals.proofs.Reading.{after, part_read, all_read}
 use Rattle.numerals.proofs.list.numbers.Goals as goal
 use Rattle.numerals.proofs.list.numbers.Goals.{In-Some}
 
@@ -15,9 +15,6 @@ read c o told =
     let e = YieldsList-from_slice_split _ (λ b. eqb b comma) c.args.bytes.now (search rules) (search rules) (search rules) (λ x r q k. search (rules, tests)) in
     let t = YieldsList-turn e c.loop-part.yielded _ c.loop-part.yielded_by _ _ c.in-Some.part c.in-Some.is c.next.ensures.steps in
     part_read c.args.bytes.now (length c.loop-part.yielded) (vec_items c.loop-part.done) c.loop-part.invariant c.in-Some.part.now t o told
-
-pub loop-part-init : goal.loop-part-init
-loop-part-init c = ap (λ vs. after vs (parts c.args.bytes.now)) c.new-done.ensures.items ∙ none_read c.args.bytes.now
 
 pub returns-in_default : goal.returns-in_default
 returns-in_default c = sym (read (goal.at.returns-in_default c).In-Some None c.in_default.ensures)

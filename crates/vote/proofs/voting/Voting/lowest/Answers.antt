@@ -1,11 +1,8 @@
 -- The first that passes is the least. Assumes nothing.
 use Rattle.std.proofs.Common.{◌≡◌, ◌≤◌, true, false, rules, tests}
-use Rattle.std.proofs.lemmas.Iterator.{first_from_Range, serves_from_Range}
+use Rattle.std.proofs.lemmas.Iterator.{first_from_Range}
 use Rattle.vote.proofs.Seeking.{seek_first}
 use Rattle.vote.proofs.voting.Voting.lowest.Goals as goal
-
-pub find-requires-clause-callable : goal.find-requires-clause-callable
-find-requires-clause-callable g c = serves_from_Range (λ x q k. search (rules, tests)) (λ x low high. search rules)
 
 pub returns : goal.returns
 returns g c = λ p f.
