@@ -1,7 +1,8 @@
 -- What an option holds, and the first of two that holds something. Assumes nothing.
-use Rattle.std.proofs.Common.{◌≡◌, ℕ, Bool, true, false, ◌||◌, eqb, ◌⊎◌, Some, None, Option, sym, refl, ap, ◌∙◌, inl, inr, ⊎_elim}
+use Rattle.std.proofs.Common.{◌≡◌, ℕ, Bool, true, false, ◌||◌, eqb, ◌⊎◌, Some, None, Option, sym, refl, ap, inl, inr, arith}
 use mathlib.Core.Bool.{or-false}
-use Rattle.std.proofs.lemmas.Bool.{false≢true, eqb-true, eq-eqb, ne_eqb, cases_eq}
+use Rattle.std.proofs.lemmas.Bool.Decides.{nat_tests}
+use Rattle.std.proofs.lemmas.Bool.{false≢true, eqb-true, eq-eqb, ne_eqb}
 use Rattle.std.specs.Option.{option_eq}
 use Rattle.quorum.specs.Truth.{clash}
 use Rattle.vote.specs.Search.{or_else, when, given, is}
@@ -25,10 +26,14 @@ is_given v (Some u) h = refl
 pub is_from : (v : ℕ) {o : Option ℕ} → o ≡ Some v → is v o ≡ true
 is_from v p = rw p (eq-eqb v v refl)
 
+-- which of two numbers is asked of the other makes no difference
+pub eqb_turned : (u v : ℕ) → eqb u v ≡ eqb v u
+eqb_turned u v = grind (arith, nat_tests)
+
 -- `o == Some(v)` asks the same
 pub same_is : (v : ℕ) (o : Option ℕ) → option_eq eqb o (Some v) ≡ is v o
 same_is v None = refl
-same_is v (Some u) = ⊎_elim (λ (q : u ≡ v). rw q) (λ (q : u ≡ v → ⊥). ne_eqb u v q ∙ sym (ne_eqb v u (λ z. q (sym z)))) (cases_eq u v)
+same_is v (Some u) = eqb_turned u v
 
 -- an option holds one value only
 pub holds_one : {A : Type 0} {o : Option A} {a b : A} → o ≡ Some a → o ≡ Some b → a ≡ b
