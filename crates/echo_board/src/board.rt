@@ -3,7 +3,7 @@ ghost use Rattle.std.specs.Prelude.{◌≡◌, ◌<◌, ◌≤◌, []};
 ghost use Rattle.echo_board.specs.Laws.{EchoBoardKeeps};
 ghost use Rattle.echo_board.specs.Records.{record_of, Counts};
 ghost use Rattle.echo_board.specs.Steps.{remembering, news_in};
-ghost use Rattle.heard.specs.Limits.{max_characters, max_kind};
+ghost use Rattle.heard.specs.Limits.{max_characters, max_kind, KindUpTo};
 ghost use Rattle.heard.specs.Shown.{setting_in};
 ghost use Rattle.quorum.specs.Limits.{max_crew};
 ghost use Rattle.vote.specs.Setting.{Setting};
@@ -11,7 +11,7 @@ ghost use Rattle.vote.specs.Setting.{Setting};
 use crate::findings::Findings;
 use crate::news::fresh;
 use heard::Heard;
-use quorum::FailureRule;
+use quorum::{FailureRule, without};
 use vote::{Decision, News, Vote, Voting};
 
 // What a board has counted, the values that it has echoed, as a set, its words of the kinds 2 to 5, and its decision.
@@ -62,7 +62,7 @@ impl EchoRecord {
         ensures after { self.new ≡ remembering self.old found }
         ensures news { result ≡ news_in self.old found }
     {
-        let echoes = found.echoes - (found.echoes & self.echoed);
+        let echoes = without(found.echoes, self.echoed);
         let second = fresh(self.second, found.second);
         let third = fresh(self.third, found.third);
         let fourth = fresh(self.fourth, found.fourth);
@@ -83,7 +83,7 @@ impl EchoRecord {
     pub fn count<R: FailureRule>(&mut self, voting: &Voting<R>, vote: Vote) -> Option<News>
         requires crew { (R.meaning voting.now.rule.now).crew ≤ max_crew }
         requires sender { vote.sender < (R.meaning voting.now.rule.now).crew }
-        requires kind { (1 ≤ vote.kind) × (vote.kind ≤ max_kind) }
+        requires kind { KindUpTo max_kind vote.kind }
         requires value { vote.value ≤ voting.now.characters }
         ensures counts { Counts (setting_in voting.now) vote self.old self.new result }
         ensures keeps { EchoBoardKeeps (setting_in voting.now) }

@@ -7,7 +7,7 @@ ghost use Rattle.vote.specs.News.{values, first_news};
 ghost use Rattle.vote.specs.Search.{is};
 ghost use Rattle.vote.specs.Setting.{Setting};
 
-use vote::{MAX_CHARACTERS, News};
+use vote::{ECHO, MAX_CHARACTERS, News};
 
 // The value that the word bears, if there is one, as a set. No `From`: such a set is a number, and has no type of its own.
 fn value_set(word: Option<u8>) -> u16
@@ -36,7 +36,5 @@ pub fn first_news(start: u8) -> News
     requires { start ≤ max_characters }
     ensures { (S : Setting) → result ≡ first_news (echo S) start }
 {
-    News {
-        kinds: [1 << start, 0, 0, 0, 0],
-    }
+    News::one(ECHO, start)
 }

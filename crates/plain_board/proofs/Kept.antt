@@ -11,8 +11,8 @@ use Rattle.vote.specs.Search.{is}
 use Rattle.vote.proofs.Options.{is_found}
 use Rattle.vote.specs.Setting.{Setting}
 use Rattle.agreement.specs.Plain.{branch, branch_posted, posts, decided, plain}
-use Rattle.vote.specs.News.{news_of}
-use Rattle.plain_board.specs.Step.{repeats, taken, no_news, branch_news}
+use Rattle.vote.specs.News.{no_news, news_of}
+use Rattle.plain_board.specs.Step.{repeats, taken, branch_news}
 use Rattle.plain_board.specs.Marks.{words, Marks}
 use Rattle.plain_board.proofs.Memory.{branch_low, branch_stays, decision_stays}
 use Rattle.plain_board.proofs.Graded.{decided_fits}

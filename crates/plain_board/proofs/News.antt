@@ -11,8 +11,8 @@ use Rattle.vote.specs.declared.Vote.{Vote}
 use Rattle.vote.specs.Search.{is}
 use Rattle.vote.specs.Setting.{Setting}
 use Rattle.agreement.specs.Plain.{branch, branch_posted, posts, plain}
-use Rattle.vote.specs.News.{values, news_of}
-use Rattle.plain_board.specs.Step.{no_news, branch_news}
+use Rattle.vote.specs.News.{values, no_news, news_of}
+use Rattle.plain_board.specs.Step.{branch_news}
 use Rattle.vote.proofs.Seeking.{set_of_none}
 
 -- kind 2 alone can be new

@@ -2,6 +2,7 @@
 ghost use Rattle.std.specs.Prelude.{◌≡◌, ◌<◌, ◌≤◌, List, []};
 ghost use Rattle.quorum.specs.Limits.{max_crew};
 ghost use Rattle.vote.specs.declared.Vote.{Vote};
+ghost use Rattle.vote.specs.Limits.{KindUpTo};
 ghost use Rattle.vote.specs.Setting.{Setting};
 ghost use Rattle.agreement.specs.Plain.{branch as branch_by, decided as decided_by, posts};
 ghost use Rattle.plain_board.specs.Limits.{max_value};
@@ -74,7 +75,7 @@ impl PlainRecord {
 
     // Whether a word of this kind, a number as in a Vote, and sender has been counted.
     fn repeats(&self, vote: Vote) -> bool
-        requires { (vote.sender < max_crew) × ((1 ≤ vote.kind) × (vote.kind ≤ 2)) }
+        requires { (vote.sender < max_crew) × KindUpTo 2 vote.kind }
         ensures { (S : Setting) (h : List Vote) → vote.sender < S.rule.crew → self.now ≡ record_of S h → result ≡ repeats_in h vote }
     {
         match vote.kind {
@@ -87,7 +88,7 @@ impl PlainRecord {
     // The caller has checked the word: its sender is of the crew, its kind and value are among those that there are.
     pub fn count<R: FailureRule>(&mut self, voting: &Voting<R>, vote: Vote) -> Option<News>
         requires sender_lt_max_crew { (vote.sender < max_crew) × (vote.sender < (R.meaning voting.now.rule.now).crew) }
-        requires le_kind { (1 ≤ vote.kind) × (vote.kind ≤ 2) }
+        requires le_kind { KindUpTo 2 vote.kind }
         requires value_le_max_value { vote.value ≤ max_value }
         ensures shows { Counts (setting_in voting.now) vote self.old self.new result }
         ensures marks { PlainMarks (setting_in voting.now) }
@@ -113,6 +114,6 @@ impl PlainRecord {
             (Stage::Decided(_, _), 1) => self.first.add(vote.value, vote.sender),
             (Stage::Decided(_, _), _) => self.second.add(vote.value, vote.sender),
         }
-        Some(posted::none())
+        Some(News::none())
     }
 }
