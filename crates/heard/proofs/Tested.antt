@@ -1,5 +1,5 @@
 -- Each test, from what is asked of the sets of senders: its parts put together are the test's definition. Assumes nothing.
-use Rattle.std.proofs.Common.{◌≡◌, ℕ, suc, ◌+◌, ◌-◌, ◌≤◌, Bool, false, cond, not, ◌&&◌, ◌||◌, eqb, leb, get_or, Some, None, Option, sym, ap, ◌∙◌, ap₂, arith}
+use Rattle.std.proofs.Common.{◌≡◌, ℕ, suc, ◌+◌, ◌-◌, ◌<◌, ◌≤◌, Bool, false, cond, not, ◌&&◌, ◌||◌, eqb, leb, get_or, Some, None, Option, sym, ap, ◌∙◌, ap₂, arith}
 use Rattle.quorum.specs.Rules.{Rule, ample, ample_by}
 use Rattle.vote.specs.declared.Decision.{Decision}
 use Rattle.vote.specs.declared.Depth.{Depth}
@@ -38,8 +38,11 @@ module _ (R : Rule) (k : ℕ) (low : k ≤ 8) (o : Heard) (d : Depth) (x : Seen)
   abbrev Late : ℕ → Bool
   Late c = mixed (setting R k d) x && ample_by R (speaks x c)
 
-  pub late_made : (c : ℕ) → 1 ≤ c → c ≤ 5 → {a m : Bool} → a ≡ ample R (get_or o.first (c - 1) beyond).all → m ≡ mixed (setting R k d) x → (m && a) ≡ Late c
-  late_made c one five p q = let z : suc (c - 1) ≡ c = omega arith in ap₂ (λ (a b : Bool). a && b) q (p ∙ ample_all R k low o x e (c - 1) (omega arith) ∙ ap (λ (j : ℕ). ample_by R (speaks x j)) z)
+  abbrev AllLate : ℕ → Bool
+  AllLate j = mixed (setting R k d) x && ample R (get_or o.first j beyond).all
+
+  late_made : (j : ℕ) → j < 5 → {b : Bool} → b ≡ AllLate j → b ≡ Late (suc j)
+  late_made j h p = p ∙ ap (λ (a : Bool). mixed (setting R k d) x && a) (ample_all R k low o x e j h)
 
   -- the lowest value for which ample senders voted first in the kind c
   abbrev Shared : ℕ → ℕ → Option ℕ → Type 0
@@ -57,22 +60,22 @@ module _ (R : Rule) (k : ℕ) (low : k ≤ 8) (o : Heard) (d : Depth) (x : Seen)
   unfolding third
   third_made v p q s t = p ∙ ap₂ or_else (value_made 2 (omega arith) (omega arith) v q) (s ∙ ap (λ (b : Bool). when b 0) t)
 
-  pub outcome_made : {r t : Option ℕ} (s : Option ℕ) {b : Bool} → r ≡ or_else t s → Shared 3 0 s → t ≡ when b 0 → b ≡ Late 3 → r ≡ outcome (setting R k d) x
+  pub outcome_made : {r t : Option ℕ} (s : Option ℕ) {b : Bool} → r ≡ or_else t s → Shared 3 0 s → t ≡ when b 0 → b ≡ AllLate 2 → r ≡ outcome (setting R k d) x
   unfolding outcome
-  outcome_made v p q s t = p ∙ ap₂ or_else (s ∙ ap (λ (b : Bool). when b 0) t) (value_made 3 (omega arith) (omega arith) v q)
+  outcome_made v p q s t = p ∙ ap₂ or_else (s ∙ ap (λ (b : Bool). when b 0) (late_made 2 (omega arith) t)) (value_made 3 (omega arith) (omega arith) v q)
 
-  pub fifth_made : {r t : Option ℕ} (s : Option ℕ) {b : Bool} → r ≡ or_else s t → Shared 4 0 s → t ≡ when b 0 → b ≡ Late 4 → r ≡ fifth (setting R k d) x
+  pub fifth_made : {r t : Option ℕ} (s : Option ℕ) {b : Bool} → r ≡ or_else s t → Shared 4 0 s → t ≡ when b 0 → b ≡ AllLate 3 → r ≡ fifth (setting R k d) x
   unfolding fifth
-  fifth_made v p q s t = p ∙ ap₂ or_else (value_made 4 (omega arith) (omega arith) v q) (s ∙ ap (λ (b : Bool). when b 0) t)
+  fifth_made v p q s t = p ∙ ap₂ or_else (value_made 4 (omega arith) (omega arith) v q) (s ∙ ap (λ (b : Bool). when b 0) (late_made 3 (omega arith) t))
 
   -- the middle way of the test 7
   abbrev Held : Option Decision
   Held = cond (Late 5) (decides 1 (lowest (setting R k d) (backed (setting R k d) x))) None
 
-  pub held_made : {h : Option Decision} {v : Option ℕ} {b : Bool} → h ≡ cond b (decides 1 v) None → b ≡ Late 5
+  pub held_made : {h : Option Decision} {v : Option ℕ} {b : Bool} → h ≡ cond b (decides 1 v) None → b ≡ AllLate 4
       → v ≡ seek (suc k) (backed_in R (get_or o.first 3 beyond).values (get_or o.first 4 beyond).values) → h ≡ Held
   unfolding lowest backed
-  held_made p q v = p ∙ ap₂ (λ (t : Bool) (w : Option ℕ). cond t (decides 1 w) None) q (v ∙ backed_is R k low o x e)
+  held_made p q v = p ∙ ap₂ (λ (t : Bool) (w : Option ℕ). cond t (decides 1 w) None) (late_made 4 (omega arith) q) (v ∙ backed_is R k low o x e)
 
   pub verdict_made : {r f g n : Option Decision} (v : Option ℕ) {z : Bool} → r ≡ or_else f g → g ≡ or_else Held n → f ≡ decides 2 v → Shared 5 1 v
       → n ≡ when z (decision_on 0 0) → z ≡ ample R (get_or (get_or o.first 4 beyond).values 0 0) → r ≡ verdict (setting R k d) Two x

@@ -2,9 +2,7 @@
 ghost use Rattle.std.specs.Prelude.{◌&&◌};
 ghost use Rattle.heard.specs.Shown.{Makes};
 ghost use Rattle.agreement.specs.Echo.{two_approved, mixed as is_mixed};
-ghost use Rattle.quorum.specs.Rules.{ample_by};
-ghost use Rattle.vote.specs.History.{speaks};
-ghost use Rattle.vote.specs.Limits.{max_kind, KindUpTo};
+ghost use Rattle.quorum.specs.Rules.{ample as is_ample};
 
 use crate::counted::Heard;
 use crate::search::lowest_ample;
@@ -29,11 +27,10 @@ impl Heard {
         ample(voting.rule, self.echoes[0]) || self.two_approved(voting)
     }
 
-    // Whether it is mixed, and all senders of the kind are ample. The kind stays a number, as in a Vote: the tests are said of all numbers.
-    pub(crate) fn late<R: FailureRule>(&self, voting: &Voting<R>, kind: u8) -> bool
-        requires { KindUpTo max_kind kind }
-        ensures { Makes voting.now (λ S x. is_mixed S x && ample_by S.rule (speaks x kind)) self.now result }
+    // Whether it is mixed, and the senders, all of one kind, are ample.
+    pub(crate) fn late<R: FailureRule>(&self, voting: &Voting<R>, senders: u16) -> bool
+        ensures { Makes voting.now (λ S x. is_mixed S x && is_ample S.rule senders) self.now result }
     {
-        ample(voting.rule, self.first[kind as usize - 1].all) && self.mixed(voting)
+        ample(voting.rule, senders) && self.mixed(voting)
     }
 }

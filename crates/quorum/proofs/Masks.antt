@@ -34,7 +34,7 @@ set_of_insert n p j l =
 pub set_of_member : (n s : ℕ) → s < 2 ^ n → set_of n (λ i. member i s) ≡ s
 set_of_member n s l = set_of_is n s _ (λ i h. refl) (λ i h. false_from_ne_true _ (λ e. let k = member_lt n s i l e in omega arith))
 
-bit_le : (b : Bool) → cond b 1 0 ≤ 1
+pub bit_le : (b : Bool) → cond b 1 0 ≤ 1
 bit_le true = omega arith
 bit_le false = omega arith
 
@@ -57,7 +57,7 @@ pub set_of_not : (n : ℕ) (p : ℕ → Bool) → set_of n (λ i. not (p i)) ≡
 set_of_not n p = let e = both n p in omega arith
 
 -- ---- the boards that pass one test and not another
-bit_split : (b c : Bool) → cond b 1 0 ≡ cond (b && c) 1 0 + cond (b && not c) 1 0
+pub bit_split : (b c : Bool) → cond b 1 0 ≡ cond (b && c) 1 0 + cond (b && not c) 1 0
 bit_split true true = refl
 bit_split true false = refl
 bit_split false c = refl

@@ -25,10 +25,13 @@ is_given v (Some u) h = refl
 pub is_from : (v : ℕ) {o : Option ℕ} → o ≡ Some v → is v o ≡ true
 is_from v p = rw p (eq-eqb v v refl)
 
+pub eqb_turned : (a b : ℕ) → eqb a b ≡ eqb b a
+eqb_turned a b = ⊎_elim (λ (q : a ≡ b). rw q) (λ (q : a ≡ b → ⊥). ne_eqb a b q ∙ sym (ne_eqb b a (λ z. q (sym z)))) (cases_eq a b)
+
 -- `o == Some(v)` asks the same
 pub same_is : (v : ℕ) (o : Option ℕ) → option_eq eqb o (Some v) ≡ is v o
 same_is v None = refl
-same_is v (Some u) = ⊎_elim (λ (q : u ≡ v). rw q) (λ (q : u ≡ v → ⊥). ne_eqb u v q ∙ sym (ne_eqb v u (λ z. q (sym z)))) (cases_eq u v)
+same_is v (Some u) = eqb_turned u v
 
 -- an option holds one value only
 pub holds_one : {A : Type 0} {o : Option A} {a b : A} → o ≡ Some a → o ≡ Some b → a ≡ b

@@ -4,9 +4,6 @@ use Rattle.std.proofs.lemmas.Iterator.{first_from_Range, serves_from_Range}
 use Rattle.vote.proofs.Seeking.{seek_first}
 use Rattle.vote.proofs.voting.Voting.lowest.Goals as goal
 
-pub find-requires-clause-callable : goal.find-requires-clause-callable
-find-requires-clause-callable g c = serves_from_Range (λ x q k. search (rules, tests)) (λ x low high. search rules)
-
 pub returns : goal.returns
 returns g c = λ p f.
     seek_first c.args.self.now.characters p _
