@@ -9,9 +9,9 @@ overflow_add-u g c = let k : c.in-Some.u < suc c.args.voting.now.characters = (s
 
 pub returns-in-None : goal.returns-in-None
 returns-in-None g c = λ d x e.
-    two_made_none (g.R.FailureRule.meaning c.args.voting.now.rule.now) c.args.voting.now.characters c.args.voting.now.few c.args.self.now d x e c.lowest_ample.ensures c.in-None.is
+    two_made_none c.args.voting.now c.args.self.now d x e c.lowest_ample.ensures c.in-None.is
 
 pub returns-in-Some : goal.returns-in-Some
 returns-in-Some g c = λ d x e.
-    two_made_some (g.R.FailureRule.meaning c.args.voting.now.rule.now) c.args.voting.now.characters c.args.voting.now.few c.args.self.now d x e c.in-Some.u c.lowest_ample.ensures c.in-Some.is
+    two_made_some c.args.voting.now c.args.self.now d x e c.in-Some.u c.lowest_ample.ensures c.in-Some.is
     c.lowest_ample-in-Some.ensures c.is_some.ensures
