@@ -86,6 +86,7 @@ impl PlainRecord {
 
     // Counts the word, unless it repeats another, and moves the board on. The answer is None for a word found counted already, and otherwise what is newly posted.
     // The caller has checked the word: its sender is of the crew, its kind and value are among those that there are.
+    #[tactic(auto, using(crate::proofs::Kept::plain_marks))]
     pub fn count<R: FailureRule>(&mut self, voting: &Voting<R>, vote: Vote) -> Option<News>
         requires sender_lt_max_crew { (vote.sender < max_crew) × (vote.sender < (R.meaning voting.now.rule.now).crew) }
         requires le_kind { KindUpTo 2 vote.kind }
