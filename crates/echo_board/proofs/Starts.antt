@@ -1,5 +1,5 @@
 -- A board's record and its words as it starts, and a word as a set of its value. Assumes nothing.
-use Rattle.std.proofs.Common.{◌≡◌, ℕ, ◌*◌, ◌%◌, ◌^◌, ◌<◌, ◌≤◌, Bool, true, false, ◌&&◌, ◌||◌, eqb, leb, [], ◌∷◌, Some, None, Option, sym, refl, ap, ◌∙◌, arith}
+use Rattle.std.proofs.Common.{◌≡◌, ℕ, ◌*◌, ◌%◌, ◌^◌, ◌<◌, ◌≤◌, Bool, false, eqb, leb, [], ◌∷◌, Some, None, Option, sym, ap, ◌∙◌, arith}
 use mathlib.Core.Bool.{and-true, and-false, or-false}
 use Rattle.std.proofs.Math.Bool.{and-not_self}
 use lib.Bits.{bit_or}
@@ -51,7 +51,7 @@ unfolding echoed ever
 start_echo S s l = single s (echoed S s []) l (λ v. rw (and-false (leb v S.characters)) (or-false (eqb v s)))
 
 pub start_is : (S : Setting) (s : ℕ) (a : ℕ) (y : Heard) → a ≡ values (echoed S s []) → y ≡ heard_of S.rule.crew (seen [])
-    → record { heard = y; echoed = a; second = None; third = None; fourth = None; fifth = None; decision = None } ≡ record_of S s []
+    → record { heard = y; held = record { echoes = a; second = None; third = None; fourth = None; fifth = None; decision = None } } ≡ record_of S s []
 unfolding record_of said decided memo
 start_is S s a y p q = rw (p, q)
 

@@ -1,5 +1,5 @@
 -- What a plain board can decide: a character that there is, or none, with a grade that there is. Assumes nothing.
-use Rattle.std.proofs.Common.{◌≡◌, ℕ, zero, suc, ◌≤◌, Bool, true, false, cond, not, ◌&&◌, eqb, List, Some, None, Option, refl, ap, subst, zero-le, arith}
+use Rattle.std.proofs.Common.{◌≡◌, ℕ, zero, suc, ◌≤◌, Bool, true, false, cond, not, ◌&&◌, eqb, List, Some, None, Option, refl, subst, zero-le, arith}
 use Rattle.quorum.specs.Rules.{ample_by}
 use Rattle.vote.specs.declared.Decision.{Decision}
 use Rattle.vote.specs.declared.Depth.{Depth}
