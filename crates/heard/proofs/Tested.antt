@@ -1,5 +1,5 @@
 -- Each test, from what is asked of the sets of senders: its parts put together are the test's definition. Assumes nothing.
-use Rattle.std.proofs.Common.{◌≡◌, ℕ, suc, ◌+◌, ◌-◌, ◌<◌, ◌≤◌, Bool, false, cond, not, ◌&&◌, ◌||◌, eqb, leb, get_or, Some, None, Option, sym, ap, ◌∙◌, ap₂, arith}
+use Rattle.std.proofs.Common.{◌≡◌, ℕ, suc, ◌+◌, ◌-◌, ◌<◌, ◌≤◌, Bool, true, false, cond, not, ◌&&◌, eqb, leb, get_or, Some, None, Option, sym, ap, ◌∙◌, ap₂, arith}
 use Rattle.quorum.specs.declared.rule.FailureRule.{Ghosts}
 use Rattle.quorum.specs.Rules.{Rule, ample, ample_by}
 use Rattle.vote.specs.declared.Decision.{Decision}
@@ -34,15 +34,18 @@ module _ {B : Type 0} {m : Ghosts B} (V : Voting B m) where
     unfolding two_approved lowest approved
     two_made_none p q = two_none (suc k) (λ v. ample_by R (x.echo v)) (sym (lowest_approved V o x e) ∙ sym p ∙ q)
 
-    pub two_made_some : {u v : Option ℕ} {r : Bool} (w : ℕ) → u ≡ seek (suc k) (ample_from R o.echoes 0) → u ≡ Some w → v ≡ seek (suc k) (ample_from R o.echoes (w + 1)) → r ≡ given v
-        → r ≡ two_approved (setting R k d) x
+    pub two_made_some : {u v : Option ℕ} (w : ℕ) → u ≡ seek (suc k) (ample_from R o.echoes 0) → u ≡ Some w → v ≡ seek (suc k) (ample_from R o.echoes (w + 1)) → given v ≡ two_approved (setting R k d) x
     unfolding two_approved lowest approved
-    two_made_some w p q s t =
-        t ∙ ap given (s ∙ lowest_echo V o x e (w + 1)) ∙ two_some (suc k) (λ v. ample_by R (x.echo v)) w (sym (lowest_approved V o x e) ∙ sym p ∙ q)
+    two_made_some w p q s =
+        ap given (s ∙ lowest_echo V o x e (w + 1)) ∙ two_some (suc k) (λ v. ample_by R (x.echo v)) w (sym (lowest_approved V o x e) ∙ sym p ∙ q)
 
-    pub mixed_made : {a b : Bool} → a ≡ ample R (get_or o.echoes 0 0) → b ≡ two_approved (setting R k d) x → (a || b) ≡ mixed (setting R k d) x
+    pub mixed_by_zero : ample R (get_or o.echoes 0 0) ≡ true → true ≡ mixed (setting R k d) x
     unfolding mixed approved
-    mixed_made p q = ap₂ (λ (a b : Bool). a || b) (p ∙ ample_echo V o x e 0 (omega arith)) q
+    mixed_by_zero p = rw (sym (ample_echo V o x e 0 (omega arith)) ∙ p)
+
+    pub mixed_by_two : {b : Bool} → ample R (get_or o.echoes 0 0) ≡ false → b ≡ two_approved (setting R k d) x → b ≡ mixed (setting R k d) x
+    unfolding mixed approved
+    mixed_by_two p q = rw (sym (ample_echo V o x e 0 (omega arith)) ∙ p) q
 
     -- mixed, and all senders of the kind are ample
     abbrev Late : ℕ → Bool

@@ -11,6 +11,7 @@ use vote::Voting;
 
 impl Heard {
     // Whether two values are approved.
+    #[tactic(auto, using(vote::proofs::Seeking::seek_found, crate::proofs::Tested::two_made_none))]
     pub(crate) fn two_approved<R: FailureRule>(&self, voting: &Voting<R>) -> bool
         ensures { Makes voting.now two_approved self.now result }
     {
@@ -21,6 +22,7 @@ impl Heard {
     }
 
     // Whether 0 is approved, or any two values are.
+    #[tactic(auto, using(crate::proofs::Tested::mixed_by_zero, crate::proofs::Tested::mixed_by_two))]
     pub(crate) fn mixed<R: FailureRule>(&self, voting: &Voting<R>) -> bool
         ensures { Makes voting.now is_mixed self.now result }
     {

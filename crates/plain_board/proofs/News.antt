@@ -2,6 +2,7 @@
 use Rattle.std.proofs.Common.{◌≡◌, ℕ, ◌^◌, ◌≤◌, Bool, true, false, not, ◌&&◌, eqb, List, [], ◌∷◌, Some, None, Option, sym, refl, ap, ◌∙◌, ap₂, arith}
 use mathlib.Core.Bool.{and-true}
 use Rattle.std.proofs.Math.Bool.{and-not_self}
+use Rattle.std.specs.Option.{option_eq}
 use Rattle.std.proofs.lemmas.Bool.{ne_eqb}
 use Rattle.quorum.proofs.Masks.{set_of_is, set_of_ext}
 use Rattle.quorum.specs.Members.{member_bit}
@@ -14,7 +15,7 @@ use Rattle.vote.specs.Setting.{Setting}
 use Rattle.agreement.specs.Plain.{branch, branch_posted, posts, plain}
 use Rattle.vote.specs.News.{values, no_news, news_of}
 use Rattle.plain_board.specs.Step.{branch_news}
-use Rattle.vote.proofs.Options.{eqb_turned}
+use Rattle.vote.proofs.Options.{eqb_turned, same_is}
 use Rattle.vote.proofs.Seeking.{set_of_none}
 
 -- kind 2 alone can be new
@@ -64,6 +65,10 @@ module _ (S : Setting) (start : ℕ) (h : List Vote) (c v : ℕ) where
   unfolding posts
   posts_other k l = rw (ne_eqb c 1 k, ne_eqb c 2 l)
 
-  pub posts_branch : (d : Depth) → S.depth ≡ d → c ≡ 2 → is v (branch_posted S d h) ≡ posts S start h c v
+  pub posts_branch : (r : Option ℕ) → S.depth ≡ Two → c ≡ 2 → r ≡ branch S h → option_eq eqb r (Some v) ≡ posts S start h c v
   unfolding posts
-  posts_branch d e k = rw k (ap (λ (z : Depth). is v (branch_posted S z h)) (sym e))
+  posts_branch r e k q = same_is v r ∙ rw k (ap (is v) q ∙ ap (λ (z : Depth). is v (branch_posted S z h)) (sym e))
+
+  pub posts_no_branch : S.depth ≡ One → c ≡ 2 → false ≡ posts S start h c v
+  unfolding posts
+  posts_no_branch e k = rw k (ap (λ (z : Depth). is v (branch_posted S z h)) (sym e))

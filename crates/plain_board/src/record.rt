@@ -63,6 +63,7 @@ impl PlainRecord {
     }
 
     // Whether a board that started with the character has posted the word. The kind stays a number, as in a Vote: posted is said of all numbers.
+    #[tactic(auto, using(crate::proofs::News::posts_start, crate::proofs::News::posts_branch, crate::proofs::News::posts_no_branch, crate::proofs::News::posts_other))]
     pub fn has_posted(&self, depth: Depth, start: u8, kind: u8, value: u8) -> bool
         ensures { (S : Setting) (h : List Vote) → S.depth ≡ depth → self.now ≡ record_of S h → result ≡ posts S start h kind value }
     {
@@ -74,6 +75,7 @@ impl PlainRecord {
     }
 
     // Whether a word of this kind, a number as in a Vote, and sender has been counted.
+    #[tactic(auto, using(crate::proofs::Records::repeats_first, crate::proofs::Records::repeats_second))]
     fn repeats(&self, vote: Vote) -> bool
         requires { (vote.sender < max_crew) × KindUpTo 2 vote.kind }
         ensures { (S : Setting) (h : List Vote) → vote.sender < S.rule.crew → self.now ≡ record_of S h → result ≡ repeats_in h vote }
