@@ -1,5 +1,5 @@
 -- A board's record and its words as it starts, and a word as a set of its value. Assumes nothing.
-use Rattle.std.proofs.Common.{◌≡◌, ℕ, ◌*◌, ◌%◌, ◌^◌, ◌<◌, ◌≤◌, Bool, false, eqb, leb, [], ◌∷◌, Some, None, Option, sym, ap, ◌∙◌, arith}
+use Rattle.std.proofs.Common.{◌≡◌, ℕ, ◌*◌, ◌%◌, ◌^◌, ◌≤◌, Bool, false, eqb, leb, [], ◌∷◌, Some, None, Option, sym, ap, ◌∙◌, arith}
 use mathlib.Core.Bool.{and-true, and-false, or-false}
 use Rattle.std.proofs.Math.Bool.{and-not_self}
 use lib.Bits.{bit_or}
@@ -17,7 +17,7 @@ use Rattle.vote.proofs.Seeking.{set_of_none}
 use Rattle.heard.specs.declared.counted.Heard.{Heard}
 use Rattle.heard.specs.Shown.{heard_of}
 use Rattle.echo_board.specs.Records.{record_of}
-use Rattle.echo_board.specs.Steps.{fresh}
+use Rattle.echo_board.specs.Steps.{word_set, fresh}
 
 -- ---- one value as a set
 single : (s : ℕ) (p : ℕ → Bool) → s ≤ 8 → ((v : ℕ) → p v ≡ eqb v s) → (1 * 2 ^ s) % 65536 ≡ values p
@@ -26,19 +26,25 @@ single s p l f =
     ∙ set_of_ext 9 _ _ (λ i h. eqb_turned s i ∙ sym (f i))
 
 module _ (o : Option ℕ) where
-  pub none_held : o ≡ None → 0 ≡ values (λ v. is v o)
-  none_held e = sym (set_of_none 9) ∙ set_of_ext 9 _ _ (λ v h. ap (is v) (sym e))
+  pub word_none : o ≡ None → 0 ≡ word_set o
+  unfolding word_set
+  word_none e = sym (set_of_none 9) ∙ set_of_ext 9 _ _ (λ v h. ap (is v) (sym e))
 
   pub value_held : (s : ℕ) → o ≡ Some s → s ≤ 8 → (1 * 2 ^ s) % 65536 ≡ values (λ v. is v o)
   value_held s e l = single s _ l (λ v. ap (is v) e)
 
+  pub word_held : (s : ℕ) → o ≡ Some s → s ≤ 8 → (1 * 2 ^ s) % 65536 ≡ word_set o
+  unfolding word_set
+  word_held s e l = value_held s e l
+
   -- no value is beyond 8
-  pub high_held : (s : ℕ) → o ≡ Some s → 8 < s → 0 ≡ values (λ v. is v o)
-  high_held s e l = sym (set_of_none 9) ∙ set_of_ext 9 _ _ (λ v h. sym (ne_eqb v s (omega arith)) ∙ ap (is v) (sym e))
+  pub word_beyond : (s : ℕ) → o ≡ Some s → (s ≤ 8 → ⊥) → 0 ≡ word_set o
+  unfolding word_set
+  word_beyond s e l = sym (set_of_none 9) ∙ set_of_ext 9 _ _ (λ v h. sym (ne_eqb v s (omega arith)) ∙ ap (is v) (sym e))
 
 -- ---- what is found where nothing, or something, was before
-pub fresh_none : (b o : Option ℕ) → b ≡ None → values (λ v. is v o) ≡ fresh b o
-unfolding fresh
+pub fresh_none : (b o : Option ℕ) → b ≡ None → word_set o ≡ fresh b o
+unfolding fresh word_set
 fresh_none b o e = rw e (set_of_ext 9 _ _ (λ v h. sym (and-true (is v o))))
 
 pub fresh_some : (b o : Option ℕ) (u : ℕ) → b ≡ Some u → 0 ≡ fresh b o

@@ -41,6 +41,10 @@ remembering o f = record {
   decision = or_else o.decision f.decision;
 }
 
+-- the value that the word bears, if there is one, as a set
+unfoldable pub word_set : Option ℕ → ℕ
+word_set o = values (λ v. is v o)
+
 -- the value that is there now and was not before, as a set
 unfoldable pub fresh : Option ℕ → Option ℕ → ℕ
 fresh before now = values (λ v. is v (or_else before now) && not (is v before))
