@@ -35,10 +35,10 @@ said_none S h c not2 not3 not4 not5 = sym (memo_none (λ g. found S S.depth c (s
 -- ---- the fields of a record that shows h
 module _ (S : Setting) (s : ℕ) (h : List Vote) (o : EchoRecord) (e : o ≡ record_of S s h) where
   -- no value beyond 8 is echoed
-  pub echo_posted : (c v : ℕ) → s ≤ 8 → S.characters ≤ 8 → c ≡ 1 → member v o.echoed ≡ posts S s h c v
+  pub echo_posted : (c v : ℕ) → s ≤ 8 → S.characters ≤ 8 → c ≡ 1 → member v o.held.echoes ≡ posts S s h c v
   unfolding record_of posts echoed
   echo_posted c v l k q =
-      ap (λ (z : EchoRecord). member v z.echoed) e ∙ ⊎_elim (λ (n : v < 9). member_set_of 9 (echoed S s h) v n) (λ (n : 9 ≤ v). member_beyond 9 (echoed S s h) v n ∙ none v n) (cases_lt v 9)
+      ap (λ (z : EchoRecord). member v z.held.echoes) e ∙ ⊎_elim (λ (n : v < 9). member_set_of 9 (echoed S s h) v n) (λ (n : 9 ≤ v). member_beyond 9 (echoed S s h) v n ∙ none v n) (cases_lt v 9)
       ∙ sym (cond-true _ _ _ (eq-eqb c 1 q))
     where
       neither : (a b d : Bool) → a ≡ false → b ≡ false → false ≡ (a || (b && d))

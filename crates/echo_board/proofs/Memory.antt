@@ -18,13 +18,12 @@ use Rattle.vote.proofs.Options.{else_none}
 use Rattle.vote.proofs.Seeking.{set_of_none}
 use Rattle.agreement.specs.Echo.{decides, second, third, outcome, fifth, echoes, found, verdict, said, echoed, decided, posts, echo}
 use Rattle.vote.specs.News.{values, news_of}
-use Rattle.heard.specs.declared.counted.Heard.{Heard}
 use Rattle.heard.specs.Shown.{heard_of, setting}
 use Rattle.echo_board.specs.declared.board.EchoRecord.{EchoRecord}
 use Rattle.echo_board.specs.declared.findings.Findings.{Findings}
-use Rattle.echo_board.specs.Records.{record_of}
+use Rattle.echo_board.specs.Records.{held_of, record_of}
 use Rattle.echo_board.proofs.Quiet.{echoed_same}
-use Rattle.echo_board.specs.Steps.{completing, findings_of, hearing, remembering, fresh, news_in}
+use Rattle.echo_board.specs.Steps.{completing, findings_of, remembering, fresh, news_in}
 
 -- ---- what the record holds of the tests, and otherwise what they find, at either depth
 pub else_made : {A P : Type 0} (s : Option A) {r : Option A} (t : Option A) → MatchOption s P (λ y. r ≡ Some y) → (P → r ≡ t) → r ≡ or_else s t
@@ -35,7 +34,7 @@ findings_ext : {a a' : ℕ} {b b' c c' d d' e e' : Option ℕ} {f f' : Option De
     → ◌≡◌ {A = Findings} record { echoes = a; second = b; third = c; fourth = d; fifth = e; decision = f } record { echoes = a'; second = b'; third = c'; fourth = d'; fifth = e'; decision = f' }
 findings_ext p q r s t u = rw (p, q, r, s, t, u)
 
-module _ (R : Rule) (k : ℕ) (x : Seen) (o : EchoRecord) (d : Depth) (kind : ℕ) {a : ℕ} {b c : Option ℕ} {v : Option Decision} where
+module _ (R : Rule) (k : ℕ) (x : Seen) (o : Findings) (d : Depth) (kind : ℕ) {a : ℕ} {b c : Option ℕ} {v : Option Decision} where
   pub found_one : d ≡ One → a ≡ cond (eqb kind 1) (values (λ v. leb v k && echoes (setting R k One) v x)) 0 → b ≡ or_else o.second (second (setting R k One) x) → c ≡ or_else o.third (third (setting R k One) x)
       → v ≡ or_else o.decision (decides 1 (outcome (setting R k One) x))
       → ◌≡◌ {A = Findings} record { echoes = a; second = b; third = c; fourth = o.fourth; fifth = o.fifth; decision = v } (completing kind o (findings_of (setting R k d) x))
@@ -60,7 +59,7 @@ else_again (Some a) x = refl
 abbrev with_echoes : ℕ → Findings → Findings
 with_echoes n f = record { echoes = n; second = f.second; third = f.third; fourth = f.fourth; fifth = f.fifth; decision = f.decision }
 
-module _ (c : ℕ) (o : EchoRecord) (f : Findings) where
+module _ (c : ℕ) (o : Findings) (f : Findings) where
   completing_remembers : remembering o (completing c o f) ≡ remembering o (with_echoes (cond (eqb c 1) f.echoes 0) f)
   completing_remembers = rw (else_again o.second f.second, else_again o.third f.third, else_again o.fourth f.fourth, else_again o.fifth f.fifth, else_again o.decision f.decision)
 
@@ -113,24 +112,28 @@ module _ (S : Setting) (nobody : S.rule.fails 0 ≡ true) (s : ℕ) (h : List Vo
       (cases_eq w.kind 1)
 
   -- ---- the step
-  remembering_is : remembering (hearing (record_of S s h) (heard_of S.rule.crew (seen (w ∷ h)))) (with_echoes due (findings_of S (seen (w ∷ h)))) ≡ record_of S s (w ∷ h)
-  unfolding record_of findings_of said decided memo echoes_now
-  remembering_is =
-      ap (λ (z : ℕ). record { heard = heard_of S.rule.crew (seen (w ∷ h)); echoed = z; second = said S (w ∷ h) 2; third = said S (w ∷ h) 3; fourth = said S (w ∷ h) 4; fifth = said S (w ∷ h) 5; decision = decided S (w ∷ h) }) due_kept
+  remembering_is : remembering (held_of S s h) (with_echoes due (findings_of S (seen (w ∷ h)))) ≡ held_of S s (w ∷ h)
+  unfolding findings_of said decided memo echoes_now
+  remembering_is = rw due_kept
 
-  news_is : news_in (hearing (record_of S s h) (heard_of S.rule.crew (seen (w ∷ h)))) (with_echoes due (findings_of S (seen (w ∷ h)))) ≡ news_of (echo S) s h w
-  unfolding record_of findings_of news_of fresh posts said memo echoes_now
+  news_is : news_in (held_of S s h) (with_echoes due (findings_of S (seen (w ∷ h)))) ≡ news_of (echo S) s h w
+  unfolding findings_of news_of fresh posts said memo echoes_now
   news_is = rw due_new
 
-  module _ (o : EchoRecord) (y : Heard) (f : Findings) (p : o ≡ record_of S s h) (q : y ≡ heard_of S.rule.crew (seen (w ∷ h))) (r : f ≡ completing w.kind (hearing o y) (findings_of S (seen (w ∷ h)))) where
-    pub remembers : remembering (hearing o y) f ≡ record_of S s (w ∷ h)
+  module _ (o f : Findings) (p : o ≡ held_of S s h) (q : f ≡ completing w.kind o (findings_of S (seen (w ∷ h)))) where
+    pub remembers : remembering o f ≡ held_of S s (w ∷ h)
     unfolding findings_of echoes_now
-    remembers = rw r (completing_remembers w.kind (hearing o y) (findings_of S (seen (w ∷ h))) ∙ rw (p, q) remembering_is)
+    remembers = rw q (completing_remembers w.kind o (findings_of S (seen (w ∷ h))) ∙ rw p remembering_is)
 
-    pub tells : news_in (hearing o y) f ≡ news_of (echo S) s h w
+    pub tells : news_in o f ≡ news_of (echo S) s h w
     unfolding findings_of echoes_now
-    tells = rw r (completing_tells w.kind (hearing o y) (findings_of S (seen (w ∷ h))) ∙ rw p news_is)
+    tells = rw q (completing_tells w.kind o (findings_of S (seen (w ∷ h))) ∙ rw p news_is)
 
-pub heard_in : (S : Setting) (s : ℕ) (h : List Vote) (o : EchoRecord) → o ≡ record_of S s h → o.heard ≡ heard_of S.rule.crew (seen h)
-unfolding record_of
-heard_in S s h o e = ap (λ (z : EchoRecord). z.heard) e
+module _ (S : Setting) (s : ℕ) (h : List Vote) (o : EchoRecord) (e : o ≡ record_of S s h) where
+  pub heard_in : o.heard ≡ heard_of S.rule.crew (seen h)
+  unfolding record_of
+  heard_in = ap (λ (z : EchoRecord). z.heard) e
+
+  pub held_in : o.held ≡ held_of S s h
+  unfolding record_of
+  held_in = ap (λ (z : EchoRecord). z.held) e

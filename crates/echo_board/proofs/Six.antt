@@ -1,11 +1,12 @@
 -- One vote makes a board post at most six words: the echo of the vote's value, that of 0, and one word of each other kind. Assumes nothing but that nobody may fail.
 use Rattle.std.proofs.Common.{◌≡◌, ℕ, zero, suc, ◌+◌, ◌*◌, ◌/◌, ◌%◌, ◌≤◌, Bool, true, false, cond, not, ◌&&◌, ◌||◌, eqb, leb, List, [], ◌∷◌, Some, sym, refl, ap, ◌∙◌, ⊎_elim, arith}
+use mathlib.Core.Bool.{or-false}
 use lib.Count.{ones, ones_step}
 use Rattle.std.proofs.lemmas.Bool.{and_parts, and_right, or_cases, or_parts, not-true, cases_Bool, cases_eq, eqb-true, eqb-false, ne_eqb}
 use Rattle.quorum.specs.Sets.{set_of}
 use Rattle.quorum.specs.Rules.{strong, strong_by}
 use Rattle.quorum.specs.Truth.{clash, false_unless}
-use Rattle.quorum.proofs.Masks.{set_of_ext}
+use Rattle.quorum.proofs.Masks.{set_of_ext, bit_le, bit_split}
 use Rattle.vote.specs.declared.Vote.{Vote}
 use Rattle.vote.specs.History.{seen, counted, ever, of_kind}
 use Rattle.vote.specs.Setting.{Setting}
@@ -34,10 +35,6 @@ size_none : ones 0 ≡ 0
 unfolding ones
 size_none = refl
 
-bit_le : (b : Bool) → cond b 1 0 ≤ 1
-bit_le true = omega arith
-bit_le false = omega arith
-
 bit_none : (b : Bool) → b ≡ false → cond b 1 0 ≤ 0
 bit_none b e = rw e (omega arith)
 
@@ -56,11 +53,6 @@ size_one (suc n) p f =
     (λ e. omega (arith, size_step n p, size_one n (λ i. p (suc i)) (λ i j a b. let z = f (suc i) (suc j) a b in omega arith), bit_none (p 0) e))
     (cases_Bool (p 0))
 
-bit_split : (b c : Bool) → cond b 1 0 ≡ cond (b && c) 1 0 + cond (b && not c) 1 0
-bit_split true true = refl
-bit_split true false = refl
-bit_split false c = refl
-
 size_split : (n : ℕ) (p q : ℕ → Bool) → ones (set_of n p) ≡ ones (set_of n (λ i. p i && q i)) + ones (set_of n (λ i. p i && not (q i)))
 unfolding set_of
 size_split zero p q = omega (arith, size_none)
@@ -75,8 +67,7 @@ new_only false true true t p q = clash refl q
 new_only false true false t p q = (p, refl)
 
 or_without : (b c : Bool) → c ≡ false → (b || c) ≡ b
-or_without true c p = refl
-or_without false c p = p
+or_without b c p = rw p (or-false b)
 
 module _ (S : Setting) (nobody : S.rule.fails 0 ≡ true) (start : ℕ) (w : Vote) where
   weak_before : (h : List Vote) (v : ℕ) → ever (λ g. echoes S v (seen g)) h ≡ false → strong_by S.rule (counted h 1 v) ≡ false

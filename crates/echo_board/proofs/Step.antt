@@ -1,5 +1,5 @@
 -- What counting a vote owes, from the parts of the step: where the vote repeats another, and where it is new. Assumes nothing.
-use Rattle.std.proofs.Common.{◌≡◌, ℕ, true, false, List, ◌∷◌, Some, None, Option, sym, ap, ◌∙◌}
+use Rattle.std.proofs.Common.{◌≡◌, ℕ, true, false, List, ◌∷◌, Some, None, Option, sym, ap, ◌∙◌, ap₂}
 use Rattle.std.proofs.lemmas.Bool.{cond-true, cond-false}
 use Rattle.vote.specs.declared.News.{News}
 use Rattle.vote.specs.declared.Vote.{Vote}
@@ -11,18 +11,22 @@ use Rattle.heard.specs.Shown.{heard_of}
 use Rattle.echo_board.specs.declared.board.EchoRecord.{EchoRecord}
 use Rattle.echo_board.specs.declared.findings.Findings.{Findings}
 use Rattle.echo_board.specs.Records.{record_of, answer_of}
-use Rattle.echo_board.specs.Steps.{completing, findings_of, hearing, remembering, news_in}
-use Rattle.echo_board.proofs.Memory.{remembers, tells}
+use Rattle.echo_board.specs.Steps.{completing, findings_of, remembering, news_in}
+use Rattle.echo_board.proofs.Memory.{held_in, remembers, tells}
+
+abbrev made : Heard → Findings → EchoRecord
+made y g = record { heard = y; held = g }
 
 module _ (S : Setting) (s : ℕ) (h : List Vote) (w : Vote) (o : EchoRecord) (shown : o ≡ record_of S s h) where
   pub step_repeat : repeats h w ≡ true → (o ≡ record_of S s (with_vote h w)) × (None ≡ answer_of S s h w)
   unfolding with_vote answer_of
   step_repeat e = (shown ∙ ap (record_of S s) (sym (cond-true _ _ _ e)), sym (cond-true _ _ _ e))
 
-  pub step_new : S.rule.fails 0 ≡ true → {p : EchoRecord} {y : Heard} {f : Findings} {n : News} → repeats h w ≡ false → y ≡ heard_of S.rule.crew (seen (w ∷ h)) → f ≡ completing w.kind (hearing o y) (findings_of S (seen (w ∷ h)))
-      → p ≡ remembering (hearing o y) f → n ≡ news_in (hearing o y) f → (p ≡ record_of S s (with_vote h w)) × (Some n ≡ answer_of S s h w)
-  unfolding with_vote answer_of
-  step_new nobody {y = y} {f = f} e noted found after news = (
-    after ∙ remembers S nobody s h w o y f shown noted found ∙ ap (record_of S s) (sym (cond-false _ _ _ e)),
-    ap {B = Option News} Some (news ∙ tells S nobody s h w o y f shown noted found) ∙ sym (cond-false _ _ _ e),
-  )
+  pub step_new : S.rule.fails 0 ≡ true → {y : Heard} {f g : Findings} {n : News} → repeats h w ≡ false → y ≡ heard_of S.rule.crew (seen (w ∷ h)) → f ≡ completing w.kind o.held (findings_of S (seen (w ∷ h)))
+      → g ≡ remembering o.held f → n ≡ news_in o.held f → (made y g ≡ record_of S s (with_vote h w)) × (Some n ≡ answer_of S s h w)
+  unfolding with_vote answer_of record_of
+  step_new nobody {f = f} e noted found after news =
+      let held = held_in S s h o shown in (
+        ap₂ made noted (after ∙ remembers S nobody s h w o.held f held found) ∙ ap (record_of S s) (sym (cond-false _ _ _ e)),
+        ap {B = Option News} Some (news ∙ tells S nobody s h w o.held f held found) ∙ sym (cond-false _ _ _ e),
+      )

@@ -9,18 +9,22 @@ use Rattle.vote.specs.News.{values, news_of}
 use Rattle.heard.specs.Repeats.{repeats, with_vote}
 use Rattle.heard.specs.Shown.{heard_of}
 use Rattle.echo_board.specs.declared.board.EchoRecord.{EchoRecord}
+use Rattle.echo_board.specs.declared.findings.Findings.{Findings}
 
--- the record of a board that started with a character and has counted h
-unfoldable pub record_of : Setting → ℕ → List Vote → EchoRecord
-record_of S start h = record {
-  heard = heard_of S.rule.crew (seen h);
-  echoed = values (echoed S start h);
+-- what a board that started with a character and has counted h holds of the tests
+abbrev pub held_of : Setting → ℕ → List Vote → Findings
+held_of S start h = record {
+  echoes = values (echoed S start h);
   second = said S h 2;
   third = said S h 3;
   fourth = said S h 4;
   fifth = said S h 5;
   decision = decided S h;
 }
+
+-- its record
+unfoldable pub record_of : Setting → ℕ → List Vote → EchoRecord
+record_of S start h = record { heard = heard_of S.rule.crew (seen h); held = held_of S start h }
 
 -- what is answered to a vote: nothing where it is counted already, else the words newly posted
 unfoldable pub answer_of : Setting → ℕ → List Vote → Vote → Option News

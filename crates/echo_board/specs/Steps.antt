@@ -6,8 +6,6 @@ use Rattle.vote.specs.Search.{or_else, is}
 use Rattle.vote.specs.Setting.{Setting}
 use Rattle.agreement.specs.Echo.{echoes, found, verdict}
 use Rattle.vote.specs.News.{values}
-use Rattle.heard.specs.declared.counted.Heard.{Heard}
-use Rattle.echo_board.specs.declared.board.EchoRecord.{EchoRecord}
 use Rattle.echo_board.specs.declared.findings.Findings.{Findings}
 
 -- what the seven tests make of all that is counted
@@ -21,8 +19,8 @@ findings_of S x = record {
   decision = verdict S S.depth x;
 }
 
--- What is made of the tests once a vote of kind c is counted: what the record o holds, and otherwise what is found; only an echo can make an echo due.
-abbrev pub completing : ℕ → EchoRecord → Findings → Findings
+-- What is made of the tests once a vote of kind c is counted: what is held in o, and otherwise what is found; only an echo can make an echo due.
+abbrev pub completing : ℕ → Findings → Findings → Findings
 completing c o f = record {
   echoes = cond (c == 1) f.echoes 0;
   second = or_else o.second f.second;
@@ -32,15 +30,10 @@ completing c o f = record {
   decision = or_else o.decision f.decision;
 }
 
--- the record o with other votes counted
-abbrev pub hearing : EchoRecord → Heard → EchoRecord
-hearing o y = record { heard = y; echoed = o.echoed; second = o.second; third = o.third; fourth = o.fourth; fifth = o.fifth; decision = o.decision }
-
 -- what was there stays, and what was not is as found
-abbrev pub remembering : EchoRecord → Findings → EchoRecord
+abbrev pub remembering : Findings → Findings → Findings
 remembering o f = record {
-  heard = o.heard;
-  echoed = bit_or o.echoed f.echoes;
+  echoes = bit_or o.echoes f.echoes;
   second = or_else o.second f.second;
   third = or_else o.third f.third;
   fourth = or_else o.fourth f.fourth;
@@ -48,11 +41,15 @@ remembering o f = record {
   decision = or_else o.decision f.decision;
 }
 
+-- the value that the word bears, if there is one, as a set
+unfoldable pub word_set : Option ℕ → ℕ
+word_set o = values (λ v. is v o)
+
 -- the value that is there now and was not before, as a set
 unfoldable pub fresh : Option ℕ → Option ℕ → ℕ
 fresh before now = values (λ v. is v (or_else before now) && not (is v before))
 
-abbrev pub news_in : EchoRecord → Findings → News
+abbrev pub news_in : Findings → Findings → News
 news_in o f = record {
-  kinds = (f.echoes - bit_and f.echoes o.echoed) ∷ fresh o.second f.second ∷ fresh o.third f.third ∷ fresh o.fourth f.fourth ∷ fresh o.fifth f.fifth ∷ [];
+  kinds = (f.echoes - bit_and f.echoes o.echoes) ∷ fresh o.second f.second ∷ fresh o.third f.third ∷ fresh o.fourth f.fourth ∷ fresh o.fifth f.fifth ∷ [];
 }

@@ -2,30 +2,21 @@
 ghost use Rattle.std.specs.Prelude.{◌≡◌, ◌<◌, ◌≤◌, []};
 ghost use Rattle.echo_board.specs.Laws.{EchoBoardKeeps};
 ghost use Rattle.echo_board.specs.Records.{record_of, Counts};
-ghost use Rattle.echo_board.specs.Steps.{remembering, news_in};
-ghost use Rattle.heard.specs.Limits.{max_characters, max_kind};
+ghost use Rattle.heard.specs.Limits.{max_characters, max_kind, KindUpTo};
 ghost use Rattle.heard.specs.Shown.{setting_in};
 ghost use Rattle.quorum.specs.Limits.{max_crew};
 ghost use Rattle.vote.specs.Setting.{Setting};
 
 use crate::findings::Findings;
-use crate::news::fresh;
 use heard::Heard;
 use quorum::FailureRule;
-use vote::{Decision, News, Vote, Voting};
+use vote::{News, Vote, Voting};
 
-// What a board has counted, the values that it has echoed, as a set, its words of the kinds 2 to 5, and its decision.
-// The words stay four fields: each is the answer of another test, and an array by kind would put numbers in the place of their names. Findings
-// has the same four and a decision: a struct of the four for both would only stand as one name more before each.
+// What a board has counted, and what it holds of the tests: the values that it has echoed, its words of the kinds 2 to 5, and its decision.
 #[derive(Clone, Copy)]
 pub struct EchoRecord {
     pub(crate) heard: Heard,
-    pub(crate) echoed: u16,
-    pub(crate) second: Option<u8>,
-    pub(crate) third: Option<u8>,
-    pub(crate) fourth: Option<u8>,
-    pub(crate) fifth: Option<u8>,
-    pub(crate) decision: Option<Decision>,
+    pub(crate) held: Findings,
 }
 
 // The bytes that a record takes.
@@ -48,33 +39,14 @@ impl EchoRecord {
     {
         EchoRecord {
             heard: Heard::start(),
-            echoed: 1 << start,
-            second: None,
-            third: None,
-            fourth: None,
-            fifth: None,
-            decision: None,
-        }
-    }
-
-    // Keeps what is there, and otherwise what is found. So the first answer of a test stays, and a decision never changes.
-    fn remember(&mut self, found: Findings) -> News
-        ensures after { self.new ≡ remembering self.old found }
-        ensures news { result ≡ news_in self.old found }
-    {
-        let echoes = found.echoes - (found.echoes & self.echoed);
-        let second = fresh(self.second, found.second);
-        let third = fresh(self.third, found.third);
-        let fourth = fresh(self.fourth, found.fourth);
-        let fifth = fresh(self.fifth, found.fifth);
-        self.echoed |= found.echoes;
-        self.second = self.second.or(found.second);
-        self.third = self.third.or(found.third);
-        self.fourth = self.fourth.or(found.fourth);
-        self.fifth = self.fifth.or(found.fifth);
-        self.decision = self.decision.or(found.decision);
-        News {
-            kinds: [echoes, second, third, fourth, fifth],
+            held: Findings {
+                echoes: 1 << start,
+                second: None,
+                third: None,
+                fourth: None,
+                fifth: None,
+                decision: None,
+            },
         }
     }
 
@@ -83,7 +55,7 @@ impl EchoRecord {
     pub fn count<R: FailureRule>(&mut self, voting: &Voting<R>, vote: Vote) -> Option<News>
         requires crew { (R.meaning voting.now.rule.now).crew ≤ max_crew }
         requires sender { vote.sender < (R.meaning voting.now.rule.now).crew }
-        requires kind { (1 ≤ vote.kind) × (vote.kind ≤ max_kind) }
+        requires kind { KindUpTo max_kind vote.kind }
         requires value { vote.value ≤ voting.now.characters }
         ensures counts { Counts (setting_in voting.now) vote self.old self.new result }
         ensures keeps { EchoBoardKeeps (setting_in voting.now) }
@@ -92,7 +64,7 @@ impl EchoRecord {
             return None;
         }
         self.heard.note(vote);
-        let found = self.find(voting, vote.kind);
-        Some(self.remember(found))
+        let found = self.held.find(&self.heard, voting, vote.kind);
+        Some(self.held.remember(found))
     }
 }

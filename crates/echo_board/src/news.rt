@@ -1,17 +1,18 @@
 // Words as sets of values: value v adds 2 to the power v.
 ghost use Rattle.std.specs.Prelude.{◌≡◌, ◌≤◌};
-ghost use Rattle.echo_board.specs.Steps.{fresh as fresh_of};
+ghost use Rattle.echo_board.specs.Steps.{word_set, fresh as fresh_of};
 ghost use Rattle.vote.specs.Limits.{max_characters};
 ghost use Rattle.agreement.specs.Echo.{echo};
 ghost use Rattle.vote.specs.News.{values, first_news};
 ghost use Rattle.vote.specs.Search.{is};
 ghost use Rattle.vote.specs.Setting.{Setting};
 
-use vote::{MAX_CHARACTERS, News};
+use vote::{ECHO, MAX_CHARACTERS, News};
 
 // The value that the word bears, if there is one, as a set. No `From`: such a set is a number, and has no type of its own.
+#[tactic(auto, using(crate::proofs::Starts::word_none, crate::proofs::Starts::word_held, crate::proofs::Starts::word_beyond))]
 fn value_set(word: Option<u8>) -> u16
-    ensures { result ≡ values (λ v. is v word) }
+    ensures { result ≡ word_set word }
 {
     match word {
         Some(value) if value <= MAX_CHARACTERS => 1 << value,
@@ -36,7 +37,5 @@ pub fn first_news(start: u8) -> News
     requires { start ≤ max_characters }
     ensures { (S : Setting) → result ≡ first_news (echo S) start }
 {
-    News {
-        kinds: [1 << start, 0, 0, 0, 0],
-    }
+    News::one(ECHO, start)
 }

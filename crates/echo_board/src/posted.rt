@@ -16,7 +16,7 @@ impl EchoRecord {
     pub fn decided(&self) -> Option<Decision>
         ensures { (S : Setting) (start : ℕ) (h : List Vote) → self.now ≡ record_of S start h → result ≡ decided_by S h }
     {
-        self.decision
+        self.held.decision
     }
 
     // The word of a kind other than 1 that is posted, if it is. The kind stays a number, as in a Vote: posted is said of all numbers.
@@ -25,10 +25,10 @@ impl EchoRecord {
         ensures { (S : Setting) (start : ℕ) (h : List Vote) → self.now ≡ record_of S start h → (kind ≢ 1) → result ≡ said_by S h kind }
     {
         match kind {
-            2 => self.second,
-            3 => self.third,
-            4 => self.fourth,
-            5 => self.fifth,
+            2 => self.held.second,
+            3 => self.held.third,
+            4 => self.held.fourth,
+            5 => self.held.fifth,
             _ => None,
         }
     }
@@ -39,7 +39,7 @@ impl EchoRecord {
         ensures { (S : Setting) (start : ℕ) (h : List Vote) → start ≤ max_characters → S.characters ≤ max_characters → self.now ≡ record_of S start h → result ≡ posts S start h kind value }
     {
         if kind == ECHO {
-            has(self.echoed, value)
+            has(self.held.echoes, value)
         } else {
             self.said(kind) == Some(value)
         }

@@ -6,10 +6,12 @@ use lib.Dec.{leb-zero}
 use Rattle.std.proofs.lemmas.Bool.{and_right, ne_eqb, le-leb, cases_eq}
 use Rattle.quorum.specs.Sets.{set_of}
 use Rattle.quorum.specs.Rules.{Rule, strong, ample, strong_by, ample_by}
+use Rattle.quorum.specs.declared.rule.FailureRule.{Ghosts}
 use Rattle.quorum.specs.Facts.{AmpleSetsShare}
 use Rattle.quorum.specs.Members.{member_set_of}
 use Rattle.quorum.specs.Truth.{false_since}
 use Rattle.quorum.proofs.Masks.{set_of_ext, set_of_or, set_of_minus}
+use Rattle.vote.specs.declared.voting.Voting.{Voting}
 use Rattle.vote.specs.History.{Seen, says, speaks}
 use Rattle.vote.specs.Search.{seek, all_below, some_below, given, is}
 use Rattle.agreement.specs.Echo.{other}
@@ -36,64 +38,72 @@ from_one : (v : ℕ) → leb 1 v ≡ not (eqb v 0)
 from_one zero = refl
 from_one (suc v) = le-leb 1 (suc v) (omega arith) ∙ sym (ap not (ne_eqb (suc v) 0 (omega arith)))
 
--- ---- the senders of a value are some of all, so where all are not ample, they are not
-module _ (R : Rule) (k : ℕ) (low : k ≤ 8) (from : ℕ) (f : ℕ → Option ℕ) (t : Tally) (e : t ≡ tally_of R.crew f) where
-  pub shared_is : seek (suc k) (ample_from R t.values from) ≡ seek (suc k) (λ v. leb from v && ample_by R (λ i. is v (f i)))
-  shared_is = seek_ext (suc k) _ _ (λ v h. ap (λ (s : ℕ). leb from v && ample R s) (tally_value R.crew f t e v (omega arith)))
+-- ---- under what a voting settles
+module _ {B : Type 0} {m : Ghosts B} (V : Voting B m) where
+  abbrev R : Rule
+  R = m.meaning V.rule.now
 
-  pub none_shared : AmpleSetsShare R → ample R t.all ≡ false → None ≡ seek (suc k) (λ v. leb from v && ample_by R (λ i. is v (f i)))
-  unfolding AmpleSetsShare
-  none_shared facts few =
-      sym (nothing_below (suc k) _ (λ v h. and_right (leb from v) _ (false_since (ample_by R (λ i. is v (f i))) _
-      (facts.grows _ _ (λ i l q. member_set_of R.crew (λ i. given (f i)) i l ∙ is_given v (f i) (sym (member_set_of R.crew (λ i. is v (f i)) i l) ∙ q)))
-      (ap (ample R) (sym (tally_all R.crew f t e)) ∙ few))))
+  abbrev k : ℕ
+  k = V.characters
 
-module _ (R : Rule) (k : ℕ) (low : k ≤ 8) (o : Heard) (x : Seen) (e : o ≡ heard_of R.crew x) where
-  pub ample_echo : (v : ℕ) → v ≤ 8 → ample R (get_or o.echoes v 0) ≡ ample_by R (x.echo v)
-  ample_echo v h = ap (ample R) (echo_at R.crew o x e v h)
+  -- ---- the senders of a value are some of all, so where all are not ample, they are not
+  module _ (from : ℕ) (f : ℕ → Option ℕ) (t : Tally) (e : t ≡ tally_of R.crew f) where
+    pub shared_is : seek (suc k) (ample_from R t.values from) ≡ seek (suc k) (λ v. leb from v && ample_by R (λ i. is v (f i)))
+    shared_is = seek_ext (suc k) _ _ (λ v h. ap (λ (s : ℕ). leb from v && ample R s) (tally_value R.crew f t e v (omega arith)))
 
-  pub ample_all : (j : ℕ) → j < 5 → ample R (get_or o.first j beyond).all ≡ ample_by R (speaks x (suc j))
-  ample_all j h = ap (ample R) (all_at R.crew o x e j h)
+    pub none_shared : AmpleSetsShare R → ample R t.all ≡ false → None ≡ seek (suc k) (λ v. leb from v && ample_by R (λ i. is v (f i)))
+    unfolding AmpleSetsShare
+    none_shared facts few =
+        sym (nothing_below (suc k) _ (λ v h. and_right (leb from v) _ (false_since (ample_by R (λ i. is v (f i))) _
+        (facts.grows _ _ (λ i l q. member_set_of R.crew (λ i. given (f i)) i l ∙ is_given v (f i) (sym (member_set_of R.crew (λ i. is v (f i)) i l) ∙ q)))
+        (ap (ample R) (sym (tally_all R.crew f t e)) ∙ few))))
 
-  pub lowest_echo : (f : ℕ) → seek (suc k) (ample_from R o.echoes f) ≡ seek (suc k) (λ v. leb f v && ample_by R (x.echo v))
-  lowest_echo f = seek_ext (suc k) _ _ (λ v h. ap (λ (b : Bool). leb f v && b) (ample_echo v (omega arith)))
+  module _ (o : Heard) (x : Seen) (e : o ≡ heard_of R.crew x) where
+    pub ample_echo : (v : ℕ) → v ≤ 8 → ample R (get_or o.echoes v 0) ≡ ample_by R (x.echo v)
+    ample_echo v h = ap (ample R) (echo_at R.crew o x e v h)
 
-  pub lowest_approved : seek (suc k) (ample_from R o.echoes 0) ≡ seek (suc k) (λ v. ample_by R (x.echo v))
-  lowest_approved = lowest_echo 0 ∙ seek_ext (suc k) _ _ (λ v h. rw (leb-zero v))
+    pub ample_all : (j : ℕ) → j < 5 → ample R (get_or o.first j beyond).all ≡ ample_by R (speaks x (suc j))
+    ample_all j h = ap (ample R) (all_at R.crew o x e j h)
 
-  pub shared_value : (c : ℕ) → seek (suc k) (λ v. leb 0 v && ample_by R (says x c v)) ≡ seek (suc k) (λ v. ample_by R (says x c v))
-  shared_value c = seek_ext (suc k) _ _ (λ v h. rw (leb-zero v))
+    pub lowest_echo : (f : ℕ) → seek (suc k) (ample_from R o.echoes f) ≡ seek (suc k) (λ v. leb f v && ample_by R (x.echo v))
+    lowest_echo f = seek_ext (suc k) _ _ (λ v h. ap (λ (b : Bool). leb f v && b) (ample_echo v (omega arith)))
 
-  pub shared_character : (c : ℕ) → seek (suc k) (λ v. leb 1 v && ample_by R (says x c v)) ≡ seek (suc k) (λ v. not (eqb v 0) && ample_by R (says x c v))
-  shared_character c = seek_ext (suc k) _ _ (λ v h. ap (λ (a : Bool). a && ample_by R (says x c v)) (from_one v))
+    pub lowest_approved : seek (suc k) (ample_from R o.echoes 0) ≡ seek (suc k) (λ v. ample_by R (x.echo v))
+    lowest_approved = lowest_echo 0 ∙ seek_ext (suc k) _ _ (λ v h. rw (leb-zero v))
 
-  pub parted_is : all_below (suc k) (λ u. strong R (others (get_or o.first 0 beyond) u)) ≡ all_below (suc k) (λ u. strong_by R (λ i. other u (x.first 1 i)))
-  parted_is = ap (λ s. not (given s)) (seek_ext (suc k) _ _ (λ u h. ap not (at u (omega arith))))
-    where
-      at : (u : ℕ) → u ≤ 8 → strong R (others (get_or o.first 0 beyond) u) ≡ strong_by R (λ i. other u (x.first 1 i))
-      at u h =
-          ap (strong R)
-          (ap₂ (λ (a b : ℕ). a - bit_and a b) (all_at R.crew o x e 0 (omega arith)) (value_at R.crew o x e 0 u (omega arith) h)
-          ∙ set_of_minus R.crew (speaks x 1) (says x 1 u) ∙ set_of_ext R.crew _ _ (λ i l. other_is u (x.first 1 i)))
+    pub shared_value : (c : ℕ) → seek (suc k) (λ v. leb 0 v && ample_by R (says x c v)) ≡ seek (suc k) (λ v. ample_by R (says x c v))
+    shared_value c = seek_ext (suc k) _ _ (λ v h. rw (leb-zero v))
 
-  pub backed_is : seek (suc k) (backed_in R (get_or o.first 3 beyond).values (get_or o.first 4 beyond).values)
-      ≡ seek (suc k) (λ w. not (eqb w 0) && some_below R.crew (says x 5 w) && strong_by R (says x 4 w))
-  backed_is =
-      seek_ext (suc k) _ _ (λ w h. ap₂ (λ (a b : Bool). not (eqb w 0) && a && b)
-      (ap (λ (s : ℕ). not (eqb s 0)) (value_at R.crew o x e 4 w (omega arith) (omega arith)) ∙ some_in R.crew (says x 5 w))
-      (ap (strong R) (value_at R.crew o x e 3 w (omega arith) (omega arith))))
+    pub shared_character : (c : ℕ) → seek (suc k) (λ v. leb 1 v && ample_by R (says x c v)) ≡ seek (suc k) (λ v. not (eqb v 0) && ample_by R (says x c v))
+    shared_character c = seek_ext (suc k) _ _ (λ v h. ap (λ (a : Bool). a && ample_by R (says x c v)) (from_one v))
 
-  pub echoes_is : (t : Bool) → bit_or (values (λ v. leb v k && strong R (get_or o.echoes v 0))) (bool_byte t) ≡ values (λ v. leb v k && (strong_by R (x.echo v) || (eqb v 0 && t)))
-  echoes_is t =
-      ap₂ bit_or (set_of_ext 9 _ _ (λ v h. ap (λ (b : Bool). leb v k && b) (ap (strong R) (echo_at R.crew o x e v (omega arith))))) (byte_set t)
-      ∙ sym (set_of_or 9 (λ v. leb v k && strong_by R (x.echo v)) (λ v. eqb v 0 && t))
-      ∙ set_of_ext 9 _ _ (λ v h. join v (strong_by R (x.echo v)))
-    where
-      shift : (a s : Bool) → ((a && s) || false) ≡ (a && (s || false))
-      shift true s = refl
-      shift false s = refl
+    pub parted_is : all_below (suc k) (λ u. strong R (others (get_or o.first 0 beyond) u)) ≡ all_below (suc k) (λ u. strong_by R (λ i. other u (x.first 1 i)))
+    parted_is = ap (λ s. not (given s)) (seek_ext (suc k) _ _ (λ u h. ap not (at u (omega arith))))
+      where
+        at : (u : ℕ) → u ≤ 8 → strong R (others (get_or o.first 0 beyond) u) ≡ strong_by R (λ i. other u (x.first 1 i))
+        at u h =
+            ap (strong R)
+            (ap₂ (λ (a b : ℕ). a - bit_and a b) (all_at R.crew o x e 0 (omega arith)) (value_at R.crew o x e 0 u (omega arith) h)
+            ∙ set_of_minus R.crew (speaks x 1) (says x 1 u) ∙ set_of_ext R.crew _ _ (λ i l. other_is u (x.first 1 i)))
 
-      join : (v : ℕ) (s : Bool) → ((leb v k && s) || (eqb v 0 && t)) ≡ (leb v k && (s || (eqb v 0 && t)))
-      join v s =
-          ⊎_elim (λ (q : v ≡ 0). rw (le-leb v k (omega arith)))
-          (λ (q : v ≡ 0 → ⊥). rw (ne_eqb v 0 q) (shift (leb v k) s)) (cases_eq v 0)
+    pub backed_is : seek (suc k) (backed_in R (get_or o.first 3 beyond).values (get_or o.first 4 beyond).values)
+        ≡ seek (suc k) (λ w. not (eqb w 0) && some_below R.crew (says x 5 w) && strong_by R (says x 4 w))
+    backed_is =
+        seek_ext (suc k) _ _ (λ w h. ap₂ (λ (a b : Bool). not (eqb w 0) && a && b)
+        (ap (λ (s : ℕ). not (eqb s 0)) (value_at R.crew o x e 4 w (omega arith) (omega arith)) ∙ some_in R.crew (says x 5 w))
+        (ap (strong R) (value_at R.crew o x e 3 w (omega arith) (omega arith))))
+
+    pub echoes_is : (t : Bool) → bit_or (values (λ v. leb v k && strong R (get_or o.echoes v 0))) (bool_byte t) ≡ values (λ v. leb v k && (strong_by R (x.echo v) || (eqb v 0 && t)))
+    echoes_is t =
+        ap₂ bit_or (set_of_ext 9 _ _ (λ v h. ap (λ (b : Bool). leb v k && b) (ap (strong R) (echo_at R.crew o x e v (omega arith))))) (byte_set t)
+        ∙ sym (set_of_or 9 (λ v. leb v k && strong_by R (x.echo v)) (λ v. eqb v 0 && t))
+        ∙ set_of_ext 9 _ _ (λ v h. join v (strong_by R (x.echo v)))
+      where
+        shift : (a s : Bool) → ((a && s) || false) ≡ (a && (s || false))
+        shift true s = refl
+        shift false s = refl
+
+        join : (v : ℕ) (s : Bool) → ((leb v k && s) || (eqb v 0 && t)) ≡ (leb v k && (s || (eqb v 0 && t)))
+        join v s =
+            ⊎_elim (λ (q : v ≡ 0). rw (le-leb v k (omega arith)))
+            (λ (q : v ≡ 0 → ⊥). rw (ne_eqb v 0 q) (shift (leb v k) s)) (cases_eq v 0)

@@ -1,9 +1,11 @@
 -- Each test, from what is asked of the sets of senders: its parts put together are the test's definition. Assumes nothing.
-use Rattle.std.proofs.Common.{◌≡◌, ℕ, suc, ◌+◌, ◌-◌, ◌≤◌, Bool, false, cond, not, ◌&&◌, ◌||◌, eqb, leb, get_or, Some, None, Option, sym, ap, ◌∙◌, ap₂, arith}
+use Rattle.std.proofs.Common.{◌≡◌, ℕ, suc, ◌+◌, ◌-◌, ◌<◌, ◌≤◌, Bool, true, false, cond, not, ◌&&◌, eqb, leb, get_or, Some, None, Option, sym, ap, ◌∙◌, ap₂, arith}
+use Rattle.quorum.specs.declared.rule.FailureRule.{Ghosts}
 use Rattle.quorum.specs.Rules.{Rule, ample, ample_by}
 use Rattle.vote.specs.declared.Decision.{Decision}
 use Rattle.vote.specs.declared.Depth.{Depth}
 use Rattle.vote.specs.declared.Depth.TheVariants.{Two}
+use Rattle.vote.specs.declared.voting.Voting.{Voting}
 use Rattle.vote.specs.History.{Seen, says, speaks}
 use Rattle.vote.specs.Search.{seek, or_else, when, given, is}
 use Rattle.vote.specs.Setting.{lowest, decision_on}
@@ -15,68 +17,82 @@ use Rattle.heard.specs.Masks.{beyond, ample_from, backed_in}
 use Rattle.heard.proofs.Made.{ample_echo, ample_all, lowest_echo, lowest_approved, shared_value, shared_character, backed_is}
 use Rattle.heard.proofs.Read.{first_of, value_at}
 
-module _ (R : Rule) (k : ℕ) (low : k ≤ 8) (o : Heard) (d : Depth) (x : Seen) (e : o ≡ heard_of R.crew x) where
-  pub second_made : {r : Option ℕ} → r ≡ seek (suc k) (ample_from R o.echoes 0) → r ≡ second (setting R k d) x
-  unfolding second lowest approved
-  second_made p = p ∙ lowest_approved R k low o x e
+-- ---- under what a voting settles
+module _ {B : Type 0} {m : Ghosts B} (V : Voting B m) where
+  abbrev R : Rule
+  R = m.meaning V.rule.now
 
-  pub two_made_none : {u : Option ℕ} → u ≡ seek (suc k) (ample_from R o.echoes 0) → u ≡ None → false ≡ two_approved (setting R k d) x
-  unfolding two_approved lowest approved
-  two_made_none p q = two_none (suc k) (λ v. ample_by R (x.echo v)) (sym (lowest_approved R k low o x e) ∙ sym p ∙ q)
+  abbrev k : ℕ
+  k = V.characters
 
-  pub two_made_some : {u v : Option ℕ} {r : Bool} (w : ℕ) → u ≡ seek (suc k) (ample_from R o.echoes 0) → u ≡ Some w → v ≡ seek (suc k) (ample_from R o.echoes (w + 1)) → r ≡ given v
-      → r ≡ two_approved (setting R k d) x
-  unfolding two_approved lowest approved
-  two_made_some w p q s t =
-      t ∙ ap given (s ∙ lowest_echo R k low o x e (w + 1)) ∙ two_some (suc k) (λ v. ample_by R (x.echo v)) w (sym (lowest_approved R k low o x e) ∙ sym p ∙ q)
+  module _ (o : Heard) (d : Depth) (x : Seen) (e : o ≡ heard_of R.crew x) where
+    pub second_made : {r : Option ℕ} → r ≡ seek (suc k) (ample_from R o.echoes 0) → r ≡ second (setting R k d) x
+    unfolding second lowest approved
+    second_made p = p ∙ lowest_approved V o x e
 
-  pub mixed_made : {a b : Bool} → a ≡ ample R (get_or o.echoes 0 0) → b ≡ two_approved (setting R k d) x → (a || b) ≡ mixed (setting R k d) x
-  unfolding mixed approved
-  mixed_made p q = ap₂ (λ (a b : Bool). a || b) (p ∙ ample_echo R k low o x e 0 (omega arith)) q
+    pub two_made_none : {u : Option ℕ} → u ≡ seek (suc k) (ample_from R o.echoes 0) → u ≡ None → false ≡ two_approved (setting R k d) x
+    unfolding two_approved lowest approved
+    two_made_none p q = two_none (suc k) (λ v. ample_by R (x.echo v)) (sym (lowest_approved V o x e) ∙ sym p ∙ q)
 
-  -- mixed, and all senders of the kind are ample
-  abbrev Late : ℕ → Bool
-  Late c = mixed (setting R k d) x && ample_by R (speaks x c)
+    pub two_made_some : {u v : Option ℕ} (w : ℕ) → u ≡ seek (suc k) (ample_from R o.echoes 0) → u ≡ Some w → v ≡ seek (suc k) (ample_from R o.echoes (w + 1)) → given v ≡ two_approved (setting R k d) x
+    unfolding two_approved lowest approved
+    two_made_some w p q s =
+        ap given (s ∙ lowest_echo V o x e (w + 1)) ∙ two_some (suc k) (λ v. ample_by R (x.echo v)) w (sym (lowest_approved V o x e) ∙ sym p ∙ q)
 
-  pub late_made : (c : ℕ) → 1 ≤ c → c ≤ 5 → {a m : Bool} → a ≡ ample R (get_or o.first (c - 1) beyond).all → m ≡ mixed (setting R k d) x → (m && a) ≡ Late c
-  late_made c one five p q = let z : suc (c - 1) ≡ c = omega arith in ap₂ (λ (a b : Bool). a && b) q (p ∙ ample_all R k low o x e (c - 1) (omega arith) ∙ ap (λ (j : ℕ). ample_by R (speaks x j)) z)
+    pub mixed_by_zero : ample R (get_or o.echoes 0 0) ≡ true → true ≡ mixed (setting R k d) x
+    unfolding mixed approved
+    mixed_by_zero p = rw (sym (ample_echo V o x e 0 (omega arith)) ∙ p)
 
-  -- the lowest value for which ample senders voted first in the kind c
-  abbrev Shared : ℕ → ℕ → Option ℕ → Type 0
-  Shared c from s = (f : ℕ → Option ℕ) → get_or o.first (c - 1) beyond ≡ tally_of R.crew f → s ≡ seek (suc k) (λ v. leb from v && ample_by R (λ i. is v (f i)))
+    pub mixed_by_two : {b : Bool} → ample R (get_or o.echoes 0 0) ≡ false → b ≡ two_approved (setting R k d) x → b ≡ mixed (setting R k d) x
+    unfolding mixed approved
+    mixed_by_two p q = rw (sym (ample_echo V o x e 0 (omega arith)) ∙ p) q
 
-  pub value_made : (c : ℕ) → 1 ≤ c → c ≤ 5 → (s : Option ℕ) → Shared c 0 s → s ≡ lowest (setting R k d) (λ v. ample_by R (says x c v))
-  unfolding lowest
-  value_made c one five s p = p (x.first c) (first_of R.crew o x e c one five) ∙ shared_value R k low o x e c
+    -- mixed, and all senders of the kind are ample
+    abbrev Late : ℕ → Bool
+    Late c = mixed (setting R k d) x && ample_by R (speaks x c)
 
-  pub character_made : (c : ℕ) → 1 ≤ c → c ≤ 5 → (s : Option ℕ) → Shared c 1 s → s ≡ lowest (setting R k d) (λ v. not (eqb v 0) && ample_by R (says x c v))
-  unfolding lowest
-  character_made c one five s p = p (x.first c) (first_of R.crew o x e c one five) ∙ shared_character R k low o x e c
+    abbrev AllLate : ℕ → Bool
+    AllLate j = mixed (setting R k d) x && ample R (get_or o.first j beyond).all
 
-  pub third_made : {r t : Option ℕ} (s : Option ℕ) {b : Bool} → r ≡ or_else s t → Shared 2 0 s → t ≡ when b 0 → b ≡ two_approved (setting R k d) x → r ≡ third (setting R k d) x
-  unfolding third
-  third_made v p q s t = p ∙ ap₂ or_else (value_made 2 (omega arith) (omega arith) v q) (s ∙ ap (λ (b : Bool). when b 0) t)
+    late_made : (j : ℕ) → j < 5 → {b : Bool} → b ≡ AllLate j → b ≡ Late (suc j)
+    late_made j h p = p ∙ ap (λ (a : Bool). mixed (setting R k d) x && a) (ample_all V o x e j h)
 
-  pub outcome_made : {r t : Option ℕ} (s : Option ℕ) {b : Bool} → r ≡ or_else t s → Shared 3 0 s → t ≡ when b 0 → b ≡ Late 3 → r ≡ outcome (setting R k d) x
-  unfolding outcome
-  outcome_made v p q s t = p ∙ ap₂ or_else (s ∙ ap (λ (b : Bool). when b 0) t) (value_made 3 (omega arith) (omega arith) v q)
+    -- the lowest value for which ample senders voted first in the kind c
+    abbrev Shared : ℕ → ℕ → Option ℕ → Type 0
+    Shared c from s = (f : ℕ → Option ℕ) → get_or o.first (c - 1) beyond ≡ tally_of R.crew f → s ≡ seek (suc k) (λ v. leb from v && ample_by R (λ i. is v (f i)))
 
-  pub fifth_made : {r t : Option ℕ} (s : Option ℕ) {b : Bool} → r ≡ or_else s t → Shared 4 0 s → t ≡ when b 0 → b ≡ Late 4 → r ≡ fifth (setting R k d) x
-  unfolding fifth
-  fifth_made v p q s t = p ∙ ap₂ or_else (value_made 4 (omega arith) (omega arith) v q) (s ∙ ap (λ (b : Bool). when b 0) t)
+    pub value_made : (c : ℕ) → 1 ≤ c → c ≤ 5 → (s : Option ℕ) → Shared c 0 s → s ≡ lowest (setting R k d) (λ v. ample_by R (says x c v))
+    unfolding lowest
+    value_made c one five s p = p (x.first c) (first_of R.crew o x e c one five) ∙ shared_value V o x e c
 
-  -- the middle way of the test 7
-  abbrev Held : Option Decision
-  Held = cond (Late 5) (decides 1 (lowest (setting R k d) (backed (setting R k d) x))) None
+    pub character_made : (c : ℕ) → 1 ≤ c → c ≤ 5 → (s : Option ℕ) → Shared c 1 s → s ≡ lowest (setting R k d) (λ v. not (eqb v 0) && ample_by R (says x c v))
+    unfolding lowest
+    character_made c one five s p = p (x.first c) (first_of R.crew o x e c one five) ∙ shared_character V o x e c
 
-  pub held_made : {h : Option Decision} {v : Option ℕ} {b : Bool} → h ≡ cond b (decides 1 v) None → b ≡ Late 5
-      → v ≡ seek (suc k) (backed_in R (get_or o.first 3 beyond).values (get_or o.first 4 beyond).values) → h ≡ Held
-  unfolding lowest backed
-  held_made p q v = p ∙ ap₂ (λ (t : Bool) (w : Option ℕ). cond t (decides 1 w) None) q (v ∙ backed_is R k low o x e)
+    pub third_made : {r t : Option ℕ} (s : Option ℕ) {b : Bool} → r ≡ or_else s t → Shared 2 0 s → t ≡ when b 0 → b ≡ two_approved (setting R k d) x → r ≡ third (setting R k d) x
+    unfolding third
+    third_made v p q s t = p ∙ ap₂ or_else (value_made 2 (omega arith) (omega arith) v q) (s ∙ ap (λ (b : Bool). when b 0) t)
 
-  pub verdict_made : {r f g n : Option Decision} (v : Option ℕ) {z : Bool} → r ≡ or_else f g → g ≡ or_else Held n → f ≡ decides 2 v → Shared 5 1 v
-      → n ≡ when z (decision_on 0 0) → z ≡ ample R (get_or (get_or o.first 4 beyond).values 0 0) → r ≡ verdict (setting R k d) Two x
-  unfolding verdict
-  verdict_made u p g f v n z =
-      p ∙ ap₂ or_else (f ∙ ap (decides 2) (character_made 5 (omega arith) (omega arith) u v))
-      (g ∙ ap (or_else Held) (n ∙ ap (λ (b : Bool). when b (decision_on 0 0)) (z ∙ ap (ample R) (value_at R.crew o x e 4 0 (omega arith) (omega arith)))))
+    pub outcome_made : {r t : Option ℕ} (s : Option ℕ) {b : Bool} → r ≡ or_else t s → Shared 3 0 s → t ≡ when b 0 → b ≡ AllLate 2 → r ≡ outcome (setting R k d) x
+    unfolding outcome
+    outcome_made v p q s t = p ∙ ap₂ or_else (s ∙ ap (λ (b : Bool). when b 0) (late_made 2 (omega arith) t)) (value_made 3 (omega arith) (omega arith) v q)
+
+    pub fifth_made : {r t : Option ℕ} (s : Option ℕ) {b : Bool} → r ≡ or_else s t → Shared 4 0 s → t ≡ when b 0 → b ≡ AllLate 3 → r ≡ fifth (setting R k d) x
+    unfolding fifth
+    fifth_made v p q s t = p ∙ ap₂ or_else (value_made 4 (omega arith) (omega arith) v q) (s ∙ ap (λ (b : Bool). when b 0) (late_made 3 (omega arith) t))
+
+    -- the middle way of the test 7
+    abbrev Held : Option Decision
+    Held = cond (Late 5) (decides 1 (lowest (setting R k d) (backed (setting R k d) x))) None
+
+    pub held_made : {h : Option Decision} {v : Option ℕ} {b : Bool} → h ≡ cond b (decides 1 v) None → b ≡ AllLate 4
+        → v ≡ seek (suc k) (backed_in R (get_or o.first 3 beyond).values (get_or o.first 4 beyond).values) → h ≡ Held
+    unfolding lowest backed
+    held_made p q v = p ∙ ap₂ (λ (t : Bool) (w : Option ℕ). cond t (decides 1 w) None) (late_made 4 (omega arith) q) (v ∙ backed_is V o x e)
+
+    pub verdict_made : {r f g n : Option Decision} (v : Option ℕ) {z : Bool} → r ≡ or_else f g → g ≡ or_else Held n → f ≡ decides 2 v → Shared 5 1 v
+        → n ≡ when z (decision_on 0 0) → z ≡ ample R (get_or (get_or o.first 4 beyond).values 0 0) → r ≡ verdict (setting R k d) Two x
+    unfolding verdict
+    verdict_made u p g f v n z =
+        p ∙ ap₂ or_else (f ∙ ap (decides 2) (character_made 5 (omega arith) (omega arith) u v))
+        (g ∙ ap (or_else Held) (n ∙ ap (λ (b : Bool). when b (decision_on 0 0)) (z ∙ ap (ample R) (value_at R.crew o x e 4 0 (omega arith) (omega arith)))))

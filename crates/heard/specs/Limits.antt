@@ -2,8 +2,8 @@
 use Rattle.std.specs.Prelude.{◌<◌, ◌≤◌}
 use Rattle.quorum.specs.Limits.{max_crew}
 use Rattle.vote.specs.declared.Vote.{Vote}
-pub use Rattle.vote.specs.Limits.{max_characters, max_kind}
+pub use Rattle.vote.specs.Limits.{max_characters, max_kind, KindUpTo}
 
 -- numbers that a vote can have, whatever the crew, the characters and the depth
 abbrev pub InRange : Vote → Type 0
-InRange w = (w.sender < max_crew) × (1 ≤ w.kind) × (w.kind ≤ max_kind) × (w.value ≤ max_characters)
+InRange w = (w.sender < max_crew) × KindUpTo max_kind w.kind × (w.value ≤ max_characters)

@@ -1,10 +1,8 @@
 // Which values are approved: those with ample echo senders.
-ghost use Rattle.std.specs.Prelude.{◌≤◌, ◌&&◌};
+ghost use Rattle.std.specs.Prelude.{◌&&◌};
 ghost use Rattle.heard.specs.Shown.{Makes};
 ghost use Rattle.agreement.specs.Echo.{two_approved, mixed as is_mixed};
-ghost use Rattle.quorum.specs.Rules.{ample_by};
-ghost use Rattle.vote.specs.History.{speaks};
-ghost use Rattle.vote.specs.Limits.{max_kind};
+ghost use Rattle.quorum.specs.Rules.{ample as is_ample};
 
 use crate::counted::Heard;
 use crate::search::lowest_ample;
@@ -13,6 +11,7 @@ use vote::Voting;
 
 impl Heard {
     // Whether two values are approved.
+    #[tactic(auto, using(vote::proofs::Seeking::seek_found, crate::proofs::Tested::two_made_none))]
     pub(crate) fn two_approved<R: FailureRule>(&self, voting: &Voting<R>) -> bool
         ensures { Makes voting.now two_approved self.now result }
     {
@@ -23,17 +22,17 @@ impl Heard {
     }
 
     // Whether 0 is approved, or any two values are.
+    #[tactic(auto, using(crate::proofs::Tested::mixed_by_zero, crate::proofs::Tested::mixed_by_two))]
     pub(crate) fn mixed<R: FailureRule>(&self, voting: &Voting<R>) -> bool
         ensures { Makes voting.now is_mixed self.now result }
     {
         ample(voting.rule, self.echoes[0]) || self.two_approved(voting)
     }
 
-    // Whether it is mixed, and all senders of the kind are ample. The kind stays a number, as in a Vote: the tests are said of all numbers.
-    pub(crate) fn late<R: FailureRule>(&self, voting: &Voting<R>, kind: u8) -> bool
-        requires { (1 ≤ kind) × (kind ≤ max_kind) }
-        ensures { Makes voting.now (λ S x. is_mixed S x && ample_by S.rule (speaks x kind)) self.now result }
+    // Whether it is mixed, and the senders, all of one kind, are ample.
+    pub(crate) fn late<R: FailureRule>(&self, voting: &Voting<R>, senders: u16) -> bool
+        ensures { Makes voting.now (λ S x. is_mixed S x && is_ample S.rule senders) self.now result }
     {
-        ample(voting.rule, self.first[kind as usize - 1].all) && self.mixed(voting)
+        ample(voting.rule, senders) && self.mixed(voting)
     }
 }

@@ -66,5 +66,5 @@ pub(crate) fn lowest_backed<R: FailureRule>(
 ) -> Option<u8>
     ensures { result ≡ seek (suc voting.now.characters) (backed_in (R.meaning voting.now.rule.now) fourth.now fifth.now) }
 {
-    voting.lowest(|w| w != 0 && fifth[w as usize] != 0 && strong(voting.rule, fourth[w as usize]))
+    voting.lowest_character(|w| fifth[w as usize] != 0 && strong(voting.rule, fourth[w as usize]))
 }

@@ -5,7 +5,7 @@ ghost use Rattle.heard.specs.Shown.{tally_of};
 ghost use Rattle.quorum.specs.Limits.{max_crew};
 ghost use Rattle.vote.specs.Limits.{max_characters};
 
-use quorum::has;
+use quorum::{has, without};
 use vote::VALUES;
 
 // The senders by the value of their first vote, and all of them, as sets of boards.
@@ -43,6 +43,6 @@ impl Tally {
         requires { value ≤ max_characters }
         ensures { result ≡ others_of self.now value }
     {
-        self.all - (self.all & self.values[value as usize])
+        without(self.all, self.values[value as usize])
     }
 }

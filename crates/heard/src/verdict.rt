@@ -25,7 +25,7 @@ impl Heard {
     fn held<R: FailureRule>(&self, voting: &Voting<R>) -> Option<Decision>
         ensures { Makes voting.now (λ S x. cond (is_mixed S x && ample_by S.rule (speaks x 5)) (decides 1 (lowest S (backed S x))) None) self.now result }
     {
-        if !self.late(voting, 5) {
+        if !self.late(voting, self.first[4].all) {
             return None;
         }
         decision(

@@ -45,7 +45,7 @@ impl Heard {
     pub fn outcome<R: FailureRule>(&self, voting: &Voting<R>) -> Option<u8>
         ensures { Makes voting.now outcome_of self.now result }
     {
-        let nothing = self.late(voting, 3);
+        let nothing = self.late(voting, self.first[2].all);
         let value = lowest_shared(voting, &self.first[2], 0);
         nothing.then_some(0).or(value)
     }
@@ -54,7 +54,7 @@ impl Heard {
     pub fn fifth<R: FailureRule>(&self, voting: &Voting<R>) -> Option<u8>
         ensures { Makes voting.now fifth_of self.now result }
     {
-        let nothing = self.late(voting, 4);
+        let nothing = self.late(voting, self.first[3].all);
         let value = lowest_shared(voting, &self.first[3], 0);
         value.or(nothing.then_some(0))
     }

@@ -1,17 +1,17 @@
 -- What a plain board can decide: a character that there is, or none, with a grade that there is. Assumes nothing.
-use Rattle.std.proofs.Common.{◌≡◌, ℕ, zero, suc, ◌≤◌, Bool, true, false, cond, not, ◌&&◌, eqb, List, Some, None, Option, refl, ap, subst, zero-le, arith}
-use Rattle.std.proofs.lemmas.Bool.{false≢true}
+use Rattle.std.proofs.Common.{◌≡◌, ℕ, zero, suc, ◌≤◌, Bool, true, false, cond, not, ◌&&◌, eqb, List, Some, None, Option, refl, subst, zero-le, arith}
 use Rattle.quorum.specs.Rules.{ample_by}
 use Rattle.vote.specs.declared.Decision.{Decision}
 use Rattle.vote.specs.declared.Depth.{Depth}
 use Rattle.vote.specs.declared.Depth.TheVariants.{One, Two}
 use Rattle.vote.specs.declared.Vote.{Vote}
 use Rattle.vote.specs.History.{Seen, seen, speaks}
-use Rattle.vote.specs.Search.{given, seek, when}
+use Rattle.vote.specs.Search.{seek, when}
 use Rattle.vote.specs.Setting.{Setting, decision_on, lowest}
 use Rattle.agreement.specs.Plain.{all_say, some_says, compared, decided}
 use Rattle.plain_board.specs.Read.{verdict_on}
 use Rattle.plain_board.proofs.Memory.{branch_low, decided_when}
+use Rattle.vote.proofs.Options.{holds_none}
 use Rattle.vote.proofs.Grades.{FitsIn, graded_fits}
 use Rattle.vote.proofs.Seeking.{seek_found}
 
@@ -36,7 +36,7 @@ module _ (S : Setting) where
     where
       by_ample : (a : Bool) → when a (compared S b x) ≡ Some y → FitsIn S Two y
       by_ample true q = let k : compared S b x ≡ y = cc in subst (FitsIn S Two) k (compared_fits b x low)
-      by_ample false q = absurd (false≢true (ap given q))
+      by_ample false q = holds_none q
 
   pub decided_fits : (h : List Vote) (y : Decision) → decided S h ≡ Some y → FitsIn S S.depth y
   decided_fits h y e = let k = decided_when S h y e in verdict_fits S.depth k.1 (seen k.0) y (branch_low S k.0 k.1 k.2) k.3

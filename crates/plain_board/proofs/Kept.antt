@@ -11,9 +11,9 @@ use Rattle.vote.specs.Search.{is}
 use Rattle.vote.proofs.Options.{is_found}
 use Rattle.vote.specs.Setting.{Setting}
 use Rattle.agreement.specs.Plain.{branch, branch_posted, posts, decided, plain}
-use Rattle.vote.specs.News.{news_of}
-use Rattle.plain_board.specs.Step.{repeats, taken, no_news, branch_news}
-use Rattle.plain_board.specs.Marks.{words, Marks}
+use Rattle.vote.specs.News.{no_news, news_of}
+use Rattle.plain_board.specs.Step.{repeats, taken, branch_news}
+use Rattle.plain_board.specs.Marks.{words, Marks, PlainMarks}
 use Rattle.plain_board.proofs.Memory.{branch_low, branch_stays, decision_stays}
 use Rattle.plain_board.proofs.Graded.{decided_fits}
 use Rattle.plain_board.proofs.News.{quiet, fixed_news}
@@ -86,3 +86,7 @@ module _ (S : Setting) where
     posted_fits = low_posted;
     one_word_at_most = λ low start h w. few_words low start h w (branch S h) (branch S (w ∷ h)) refl refl;
   }
+
+  pub plain_marks : PlainMarks S
+  unfolding PlainMarks
+  plain_marks = marks_hold

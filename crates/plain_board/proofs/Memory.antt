@@ -1,6 +1,6 @@
 -- How the branch and the decision go on as one vote more is counted. Assumes nothing.
 use Rattle.std.proofs.Common.{◌≡◌, ℕ, zero, suc, ◌≤◌, Bool, true, false, cond, not, ◌&&◌, eqb, List, [], ◌∷◌, Some, None, Option, unwrap_or, sym, refl, ap, ◌∙◌, subst, ap₂, ⊎_elim}
-use Rattle.std.proofs.lemmas.Bool.{false≢true, and_from, and_parts}
+use Rattle.std.proofs.lemmas.Bool.{and_from, and_parts}
 use Rattle.quorum.specs.Rules.{Rule, Lawful, ample, ample_by}
 use Rattle.quorum.specs.Sets.{member}
 use Rattle.quorum.proofs.Sharing.{ample_facts}
@@ -16,14 +16,14 @@ use Rattle.vote.specs.Setting.{Setting, decision_on, lowest}
 use Rattle.agreement.specs.Plain.{all_say, some_says, branch_found, branch, compared, decision_found, decided}
 use Rattle.plain_board.specs.Read.{common_of, verdict_on}
 use Rattle.vote.proofs.Counting.{first_other}
-use Rattle.vote.proofs.Options.{else_cases}
+use Rattle.vote.proofs.Options.{holds_none, else_cases}
 use Rattle.vote.proofs.Seeking.{set_of_none}
 use Rattle.plain_board.proofs.Reading.{found_low}
 
 -- ---- options
 or_nothing : {A : Type 0} (o p : Option A) → or_else o p ≡ None → (o ≡ None) × (p ≡ None)
 or_nothing None p e = (refl, e)
-or_nothing (Some x) p e = absurd (false≢true (sym (ap given e)))
+or_nothing (Some x) p e = holds_none (sym e)
 
 or_zero : (o : Option ℕ) → or_else o (Some 0) ≡ Some (unwrap_or o 0)
 or_zero None = refl
@@ -124,13 +124,13 @@ module _ (S : Setting) where
   common_low x c = found_low S.characters _ _ refl
 
   pub branch_low : (h : List Vote) (b : ℕ) → branch S h ≡ Some b → b ≤ S.characters
-  branch_low [] b e = absurd (false≢true (sym (ap given none_at_first) ∙ ap given e))
+  branch_low [] b e = holds_none (sym none_at_first ∙ e)
   branch_low (w ∷ h) b e =
       ⊎_elim (λ q. branch_low h b q) (λ q. found_low _ (sym (branch_found_is (w ∷ h) _ refl) ∙ q)) (else_cases (branch S h) (branch_found S (w ∷ h)) b (sym (branch_step w h) ∙ e))
     where
       found_low : (a : Bool) → cond a (Some (common_of S (seen (w ∷ h)) 1)) None ≡ Some b → b ≤ S.characters
       found_low true q = let k : common_of S (seen (w ∷ h)) 1 ≡ b = cc in subst (λ (z : ℕ). z ≤ S.characters) k (common_low (seen (w ∷ h)) 1)
-      found_low false q = absurd (false≢true (ap given q))
+      found_low false q = holds_none q
 
   -- ---- where there was nothing to find, there is nothing after a vote of another kind
   pub waits : Lawful S.rule → 1 ≤ S.rule.cover → (h : List Vote) → branch S h ≡ None → branch_found S h ≡ None
@@ -147,7 +147,7 @@ module _ (S : Setting) where
   decision_next w h b e q = decided_step w h ∙ ap₂ or_else q (found_by S.depth (w ∷ h) (Some b) e)
 
   no_verdict : (h : List Vote) (b : ℕ) → branch S h ≡ Some b → decided S h ≡ None → verdict_on S S.depth b (seen h) ≡ None
-  no_verdict [] b e q = absurd (false≢true (sym (ap given none_at_first) ∙ ap given e))
+  no_verdict [] b e q = holds_none (sym none_at_first ∙ e)
   no_verdict (w ∷ h) b e q =
       sym (found_by S.depth (w ∷ h) (Some b) e) ∙ (or_nothing (decided S h) (decision_found S S.depth (w ∷ h)) (sym (decided_step w h) ∙ q)).1
 
@@ -158,12 +158,12 @@ module _ (S : Setting) where
   -- a decision was found at some time, with the branch of that time
   pub decided_when : (h : List Vote) (y : Decision) → decided S h ≡ Some y → (g : List Vote) × (b : ℕ) × (branch S g ≡ Some b) × (verdict_on S S.depth b (seen g) ≡ Some y)
   unfolding decided memo
-  decided_when [] y e = absurd (false≢true (ap given e))
+  decided_when [] y e = holds_none e
   decided_when (w ∷ h) y e =
       ⊎_elim (λ q. decided_when h y q) (λ q. found (branch S (w ∷ h)) refl (sym (found_is S.depth (w ∷ h)) ∙ q))
       (else_cases (decided S h) (decision_found S S.depth (w ∷ h)) y (sym (decided_step w h) ∙ e))
     where
       found : (o : Option ℕ) → branch S (w ∷ h) ≡ o → by_branch S.depth (branch S (w ∷ h)) (seen (w ∷ h)) ≡ Some y
           → (g : List Vote) × (b : ℕ) × (branch S g ≡ Some b) × (verdict_on S S.depth b (seen g) ≡ Some y)
-      found None k q = absurd (false≢true (ap given (sym (ap (λ (z : Option ℕ). by_branch S.depth z (seen (w ∷ h))) k) ∙ q)))
+      found None k q = holds_none (sym (ap (λ (z : Option ℕ). by_branch S.depth z (seen (w ∷ h))) k) ∙ q)
       found (Some b) k q = (w ∷ h, b, k, sym (ap (λ (z : Option ℕ). by_branch S.depth z (seen (w ∷ h))) k) ∙ q)

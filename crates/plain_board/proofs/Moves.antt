@@ -8,14 +8,14 @@ use Rattle.vote.specs.declared.Vote.{Vote}
 use Rattle.vote.specs.History.{seen}
 use Rattle.vote.specs.Setting.{Setting}
 use Rattle.agreement.specs.Plain.{branch, decided, plain}
-use Rattle.vote.specs.News.{news_of}
+use Rattle.vote.specs.News.{no_news, news_of}
 use Rattle.plain_board.specs.declared.record.PlainRecord.{PlainRecord}
 use Rattle.plain_board.specs.declared.stage.Stage.{Stage}
 use Rattle.plain_board.specs.declared.stage.Stage.TheVariants.{Gathering, Comparing, Decided}
 use Rattle.heard.specs.declared.tally.Tally.{Tally}
 use Rattle.plain_board.specs.Shown.{stage_of, tally_of, record_of}
 use Rattle.plain_board.specs.Read.{common_of, Reads, StageOn}
-use Rattle.plain_board.specs.Step.{repeats, taken, answer_of, Adds, no_news, branch_news}
+use Rattle.plain_board.specs.Step.{repeats, taken, answer_of, Adds, branch_news}
 use Rattle.plain_board.proofs.Tallies.{tally_other}
 use Rattle.plain_board.proofs.Reading.{all_at}
 use Rattle.plain_board.proofs.Memory.{branch_low, branch_next, branch_stays, branch_waits}

@@ -1,7 +1,9 @@
 -- What the plain method posts, and its news: the branch once it is fixed, and otherwise none. Assumes nothing.
-use Rattle.std.proofs.Common.{◌≡◌, ℕ, ◌^◌, ◌≤◌, Bool, true, false, not, ◌&&◌, eqb, List, [], ◌∷◌, Some, None, Option, sym, refl, ap, ◌∙◌, ap₂, ⊎_elim, arith}
+use Rattle.std.proofs.Common.{◌≡◌, ℕ, ◌^◌, ◌≤◌, Bool, true, false, not, ◌&&◌, eqb, List, [], ◌∷◌, Some, None, Option, sym, refl, ap, ◌∙◌, ap₂, arith}
+use mathlib.Core.Bool.{and-true}
 use Rattle.std.proofs.Math.Bool.{and-not_self}
-use Rattle.std.proofs.lemmas.Bool.{eq-eqb, ne_eqb, cases_eq}
+use Rattle.std.specs.Option.{option_eq}
+use Rattle.std.proofs.lemmas.Bool.{ne_eqb}
 use Rattle.quorum.proofs.Masks.{set_of_is, set_of_ext}
 use Rattle.quorum.specs.Members.{member_bit}
 use Rattle.vote.specs.declared.Depth.{Depth}
@@ -11,22 +13,17 @@ use Rattle.vote.specs.declared.Vote.{Vote}
 use Rattle.vote.specs.Search.{is}
 use Rattle.vote.specs.Setting.{Setting}
 use Rattle.agreement.specs.Plain.{branch, branch_posted, posts, plain}
-use Rattle.vote.specs.News.{values, news_of}
-use Rattle.plain_board.specs.Step.{no_news, branch_news}
+use Rattle.vote.specs.News.{values, no_news, news_of}
+use Rattle.plain_board.specs.Step.{branch_news}
+use Rattle.vote.proofs.Options.{eqb_turned, same_is}
 use Rattle.vote.proofs.Seeking.{set_of_none}
 
 -- kind 2 alone can be new
 abbrev with_second : ℕ → News
 with_second s = record { kinds = 0 ∷ s ∷ 0 ∷ 0 ∷ 0 ∷ [] }
 
-turned : (v b : ℕ) → eqb b v ≡ (eqb v b && true)
-turned v b =
-    ⊎_elim (λ (e : v ≡ b). eq-eqb b v (sym e) ∙ sym (ap (λ (z : Bool). z && true) (eq-eqb v b e)))
-    (λ (e : v ≡ b → ⊥). ne_eqb b v (λ q. e (sym q)) ∙ sym (ap (λ (z : Bool). z && true) (ne_eqb v b e)))
-    (cases_eq v b)
-
 one_value : (b : ℕ) → b ≤ 8 → values (λ v. eqb v b && true) ≡ 2 ^ b
-one_value b low = set_of_is 9 (2 ^ b) _ (λ v h. member_bit v b ∙ turned v b) (λ v h. member_bit v b ∙ ne_eqb b v (omega arith))
+one_value b low = set_of_is 9 (2 ^ b) _ (λ v h. member_bit v b ∙ eqb_turned b v ∙ sym (and-true (eqb v b))) (λ v h. member_bit v b ∙ ne_eqb b v (omega arith))
 
 none_new : (p : ℕ → Bool) → values (λ v. p v && not (p v)) ≡ 0
 none_new p = set_of_ext 9 _ (λ v. false) (λ v h. and-not_self (p v)) ∙ set_of_none 9
@@ -68,6 +65,10 @@ module _ (S : Setting) (start : ℕ) (h : List Vote) (c v : ℕ) where
   unfolding posts
   posts_other k l = rw (ne_eqb c 1 k, ne_eqb c 2 l)
 
-  pub posts_branch : (d : Depth) → S.depth ≡ d → c ≡ 2 → is v (branch_posted S d h) ≡ posts S start h c v
+  pub posts_branch : (r : Option ℕ) → S.depth ≡ Two → c ≡ 2 → r ≡ branch S h → option_eq eqb r (Some v) ≡ posts S start h c v
   unfolding posts
-  posts_branch d e k = rw k (ap (λ (z : Depth). is v (branch_posted S z h)) (sym e))
+  posts_branch r e k q = same_is v r ∙ rw k (ap (is v) q ∙ ap (λ (z : Depth). is v (branch_posted S z h)) (sym e))
+
+  pub posts_no_branch : S.depth ≡ One → c ≡ 2 → false ≡ posts S start h c v
+  unfolding posts
+  posts_no_branch e k = rw k (ap (λ (z : Depth). is v (branch_posted S z h)) (sym e))

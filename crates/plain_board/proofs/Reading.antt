@@ -1,16 +1,16 @@
 -- What the sets of a tally say of the votes that it shows. Assumes nothing.
-use Rattle.std.proofs.Common.{◌≡◌, ℕ, zero, suc, ◌≤◌, Bool, cond, not, ◌&&◌, eqb, get_or, Some, None, Option, unwrap_or, sym, refl, ap, ◌∙◌, ap₂, zero-le, arith}
-use Rattle.quorum.specs.Rules.{ample, ample_by}
+use Rattle.std.proofs.Common.{◌≡◌, ℕ, zero, suc, ◌≤◌, Bool, true, false, cond, not, ◌&&◌, eqb, get_or, Some, None, Option, unwrap_or, sym, refl, ap, ◌∙◌, ap₂, zero-le, arith}
+use Rattle.quorum.specs.Rules.{ample}
 use Rattle.quorum.specs.Sets.{set_of}
 use Rattle.vote.specs.declared.Decision.{Decision}
 use Rattle.vote.specs.declared.Depth.{Depth}
 use Rattle.vote.specs.declared.Depth.TheVariants.{One, Two}
 use Rattle.vote.specs.History.{Seen, says, speaks}
-use Rattle.vote.specs.Search.{seek, when}
+use Rattle.vote.specs.Search.{seek}
 use Rattle.vote.specs.Setting.{Setting, decision_on, lowest}
 use Rattle.agreement.specs.Plain.{all_say, some_says, compared}
 use Rattle.heard.specs.declared.tally.Tally.{Tally}
-use Rattle.plain_board.specs.Shown.{tally_of, stage_of}
+use Rattle.plain_board.specs.Shown.{tally_of}
 use Rattle.plain_board.specs.Read.{agreed, common_of, least_of, verdict_on}
 use Rattle.vote.proofs.Options.{is_given}
 use Rattle.vote.proofs.Seeking.{seek_found, seek_ext, some_in}
@@ -66,21 +66,28 @@ module _ (S : Setting) (x : Seen) where
   unfolding compared least_of
   compared_zero b e = lowest_graded (lowest S (λ v. not (eqb v 0) && some_says S x 2 v)) ∙ ap (λ (z : ℕ). compared S z x) (sym e)
 
-  pub compared_other : (b : ℕ) (agree : Bool) → (b ≡ 0 → ⊥) → agree ≡ all_say S x 2 b → decision_on (cond agree 2 1) b ≡ compared S b x
+  compared_other : (b : ℕ) (agree : Bool) → (b ≡ 0 → ⊥) → all_say S x 2 b ≡ agree → decision_on (cond agree 2 1) b ≡ compared S b x
   unfolding compared
   compared_other zero agree ne e = absurd (ne refl)
-  compared_other (suc b) agree ne e = ap (λ (z : Bool). decision_on (cond z 2 1) (suc b)) e
+  compared_other (suc b) agree ne e = ap (λ (z : Bool). decision_on (cond z 2 1) (suc b)) (sym e)
 
-  -- ---- by the depth
-  module _ (b : ℕ) (d : Depth) where
-    pub verdict_one : d ≡ One → Some (decision_on 1 b) ≡ verdict_on S d b x
+  module _ (t : Tally) (shown : t ≡ tally_of S.rule.crew x 2) (b : ℕ) where
+    module _ (low : b ≤ 8) (ne : b ≡ 0 → ⊥) where
+      pub compared_same : agreed t b ≡ true → decision_on 2 b ≡ compared S b x
+      compared_same e = compared_other b true ne (sym (agreed_is S x 2 t shown b low) ∙ e)
+
+      pub compared_differing : agreed t b ≡ false → decision_on 1 b ≡ compared S b x
+      compared_differing e = compared_other b false ne (sym (agreed_is S x 2 t shown b low) ∙ e)
+
+    -- ---- by the depth
+    pub verdict_waits : (d : Depth) → d ≡ Two → ample S.rule t.all ≡ false → None ≡ verdict_on S d b x
     unfolding verdict_on
-    verdict_one e = ap (λ (z : Depth). verdict_on S z b x) (sym e)
+    verdict_waits d e q = rw (e, sym (all_at S x 2 t shown), q)
 
-    verdict_two : d ≡ Two → (a : Bool) → a ≡ ample_by S.rule (speaks x 2) → when a (compared S b x) ≡ verdict_on S d b x
+    pub verdict_two : (d : Depth) → d ≡ Two → ample S.rule t.all ≡ true → (y : Decision) → y ≡ compared S b x → Some y ≡ verdict_on S d b x
     unfolding verdict_on
-    verdict_two e a q = ap (λ (z : Bool). when z (compared S b x)) q ∙ ap (λ (z : Depth). verdict_on S z b x) (sym e)
+    verdict_two d e q y p = rw (e, sym (all_at S x 2 t shown), q, p)
 
-    pub stage_two : (t : Tally) → t ≡ tally_of S.rule.crew x 2 → d ≡ Two → (a : Bool) → a ≡ ample S.rule t.all
-        → stage_of (Some b) (when a (compared S b x)) ≡ stage_of (Some b) (verdict_on S d b x)
-    stage_two t f e a q = ap (λ (z : Option Decision). stage_of (Some b) z) (verdict_two e a (q ∙ ap (ample S.rule) (all_at S x 2 t f)))
+  pub verdict_one : (b : ℕ) (d : Depth) → d ≡ One → Some (decision_on 1 b) ≡ verdict_on S d b x
+  unfolding verdict_on
+  verdict_one b d e = rw e

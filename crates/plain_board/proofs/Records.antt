@@ -1,5 +1,5 @@
 -- Records that show a history: at the start, and once a vote of either kind is counted. Assumes nothing.
-use Rattle.std.proofs.Common.{◌≡◌, ℕ, ◌<◌, List, [], ◌∷◌, Some, None, sym, ap, ◌∙◌, ap₂, arith}
+use Rattle.std.proofs.Common.{◌≡◌, ℕ, ◌<◌, ◌≤◌, List, [], ◌∷◌, Some, None, sym, ap, ◌∙◌, ap₂, arith}
 use Rattle.quorum.specs.Sets.{member}
 use Rattle.quorum.specs.Members.{member_set_of}
 use Rattle.vote.specs.declared.Decision.{Decision}
@@ -24,6 +24,12 @@ pub start_is : (S : Setting) (t u : Tally) → t ≡ tally_of S.rule.crew (seen 
 unfolding record_of branch decided memo
 start_is S t u e f = ap₂ (made Gathering) e f
 
+sender_in : (n : ℕ) (h : List Vote) (t : Tally) (c i : ℕ) → t ≡ tally_of n (seen h) c → i < n → member i t.all ≡ speaks (seen h) c i
+sender_in n h t c i e l = ap (member i) (tally_all n (first h c) t e) ∙ member_set_of n (speaks (seen h) c) i l
+
+repeats_is : (n : ℕ) (h : List Vote) (t : Tally) (c : ℕ) (w : Vote) → t ≡ tally_of n (seen h) c → w.sender < n → w.kind ≡ c → member w.sender t.all ≡ repeats h w
+repeats_is n h t c w e l k = sender_in n h t c w.sender e l ∙ ap (λ (z : ℕ). speaks (seen h) z w.sender) (sym k)
+
 -- ---- what a record that shows h holds
 module _ (S : Setting) (h : List Vote) (o : PlainRecord) (e : o ≡ record_of S h) where
   pub stage_at : o.stage ≡ stage_of (branch S h) (decided S h)
@@ -47,11 +53,12 @@ module _ (S : Setting) (h : List Vote) (o : PlainRecord) (e : o ≡ record_of S 
   pub has_decision : (b : ℕ) (d : Decision) → o.stage ≡ Decided b d → (branch S h ≡ Some b) × (decided S h ≡ Some d)
   has_decision b d g = at_decided (branch S h) (decided S h) b d (sym stage_at ∙ g)
 
-sender_in : (n : ℕ) (h : List Vote) (t : Tally) (c i : ℕ) → t ≡ tally_of n (seen h) c → i < n → member i t.all ≡ speaks (seen h) c i
-sender_in n h t c i e l = ap (member i) (tally_all n (first h c) t e) ∙ member_set_of n (speaks (seen h) c) i l
+  module _ (w : Vote) (inside : w.sender < S.rule.crew) where
+    pub repeats_first : w.kind ≡ 1 → member w.sender o.first.all ≡ repeats h w
+    repeats_first k = repeats_is S.rule.crew h o.first 1 w first_at inside k
 
-pub repeats_is : (n : ℕ) (h : List Vote) (t : Tally) (c : ℕ) (w : Vote) → t ≡ tally_of n (seen h) c → w.sender < n → w.kind ≡ c → member w.sender t.all ≡ repeats h w
-repeats_is n h t c w e l k = sender_in n h t c w.sender e l ∙ ap (λ (z : ℕ). speaks (seen h) z w.sender) (sym k)
+    pub repeats_second : 1 ≤ w.kind → w.kind ≤ 2 → (w.kind ≡ 1 → ⊥) → member w.sender o.second.all ≡ repeats h w
+    repeats_second one two ne = repeats_is S.rule.crew h o.second 2 w second_at inside (omega arith)
 
 -- ---- the vote w is counted after h
 module _ (S : Setting) (w : Vote) (h : List Vote) (s : Stage) (t u : Tally) (now : s ≡ stage_of (branch S (w ∷ h)) (decided S (w ∷ h))) where

@@ -7,7 +7,7 @@ use Rattle.vote.specs.declared.Vote.{Vote}
 use Rattle.vote.specs.History.{seen, speaks}
 use Rattle.vote.specs.Setting.{Setting}
 use Rattle.agreement.specs.Plain.{plain}
-use Rattle.vote.specs.News.{news_of}
+use Rattle.vote.specs.News.{no_news, news_of}
 use Rattle.plain_board.specs.declared.record.PlainRecord.{PlainRecord}
 use Rattle.heard.specs.declared.tally.Tally.{Tally}
 use Rattle.plain_board.specs.Shown.{tally_of, record_of}
@@ -34,10 +34,6 @@ answer_of S start h w = cond (repeats h w) None (Some (news_of (plain S) start h
 unfoldable pub Counts : Setting → Vote → PlainRecord → PlainRecord → Option News → Type 0
 Counts S w entry exit r =
     (h : List Vote) → 1 ≤ S.rule.cover → entry ≡ record_of S h → (exit ≡ record_of S (taken h w)) × ((start : ℕ) → r ≡ answer_of S start h w)
-
--- ---- the news that there can be
-abbrev pub no_news : News
-no_news = record { kinds = 0 ∷ 0 ∷ 0 ∷ 0 ∷ 0 ∷ [] }
 
 -- a branch that is just fixed is posted at depth 2
 abbrev pub branch_news : Depth → ℕ → News

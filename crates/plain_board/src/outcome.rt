@@ -13,6 +13,7 @@ use quorum::{FailureRule, ample};
 use vote::{Decision, Depth, Voting};
 
 // What the words of kind 2 decide at depth 2. A board without a character takes one that another had; a board with one is sure if nobody differs.
+#[tactic(auto, using(crate::proofs::Reading::compared_zero, crate::proofs::Reading::compared_same, crate::proofs::Reading::compared_differing))]
 fn compared<R: FailureRule>(voting: &Voting<R>, second: &Tally, branch: u8) -> Decision
     ensures { (S : Setting) (x : Seen) → S.characters ≡ voting.now.characters → branch ≤ max_value → second.now ≡ tally_of S.rule.crew x 2 → result ≡ compared_with S branch x }
 {
@@ -26,6 +27,7 @@ fn compared<R: FailureRule>(voting: &Voting<R>, second: &Tally, branch: u8) -> D
 }
 
 // The stage of a board with the branch, by the senders of kind 2 that it has counted.
+#[tactic(auto, using(crate::proofs::Reading::verdict_one, crate::proofs::Reading::verdict_two, crate::proofs::Reading::verdict_waits))]
 pub(crate) fn stage_on<R: FailureRule>(voting: &Voting<R>, branch: u8, second: &Tally) -> Stage
     ensures { StageOn (setting_in voting.now) branch second.now result }
 {

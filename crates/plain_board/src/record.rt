@@ -2,6 +2,7 @@
 ghost use Rattle.std.specs.Prelude.{◌≡◌, ◌<◌, ◌≤◌, List, []};
 ghost use Rattle.quorum.specs.Limits.{max_crew};
 ghost use Rattle.vote.specs.declared.Vote.{Vote};
+ghost use Rattle.vote.specs.Limits.{KindUpTo};
 ghost use Rattle.vote.specs.Setting.{Setting};
 ghost use Rattle.agreement.specs.Plain.{branch as branch_by, decided as decided_by, posts};
 ghost use Rattle.plain_board.specs.Limits.{max_value};
@@ -62,6 +63,7 @@ impl PlainRecord {
     }
 
     // Whether a board that started with the character has posted the word. The kind stays a number, as in a Vote: posted is said of all numbers.
+    #[tactic(auto, using(crate::proofs::News::posts_start, crate::proofs::News::posts_branch, crate::proofs::News::posts_no_branch, crate::proofs::News::posts_other))]
     pub fn has_posted(&self, depth: Depth, start: u8, kind: u8, value: u8) -> bool
         ensures { (S : Setting) (h : List Vote) → S.depth ≡ depth → self.now ≡ record_of S h → result ≡ posts S start h kind value }
     {
@@ -73,8 +75,9 @@ impl PlainRecord {
     }
 
     // Whether a word of this kind, a number as in a Vote, and sender has been counted.
+    #[tactic(auto, using(crate::proofs::Records::repeats_first, crate::proofs::Records::repeats_second))]
     fn repeats(&self, vote: Vote) -> bool
-        requires { (vote.sender < max_crew) × ((1 ≤ vote.kind) × (vote.kind ≤ 2)) }
+        requires { (vote.sender < max_crew) × KindUpTo 2 vote.kind }
         ensures { (S : Setting) (h : List Vote) → vote.sender < S.rule.crew → self.now ≡ record_of S h → result ≡ repeats_in h vote }
     {
         match vote.kind {
@@ -85,9 +88,10 @@ impl PlainRecord {
 
     // Counts the word, unless it repeats another, and moves the board on. The answer is None for a word found counted already, and otherwise what is newly posted.
     // The caller has checked the word: its sender is of the crew, its kind and value are among those that there are.
+    #[tactic(auto, using(crate::proofs::Kept::plain_marks))]
     pub fn count<R: FailureRule>(&mut self, voting: &Voting<R>, vote: Vote) -> Option<News>
         requires sender_lt_max_crew { (vote.sender < max_crew) × (vote.sender < (R.meaning voting.now.rule.now).crew) }
-        requires le_kind { (1 ≤ vote.kind) × (vote.kind ≤ 2) }
+        requires le_kind { KindUpTo 2 vote.kind }
         requires value_le_max_value { vote.value ≤ max_value }
         ensures shows { Counts (setting_in voting.now) vote self.old self.new result }
         ensures marks { PlainMarks (setting_in voting.now) }
@@ -113,6 +117,6 @@ impl PlainRecord {
             (Stage::Decided(_, _), 1) => self.first.add(vote.value, vote.sender),
             (Stage::Decided(_, _), _) => self.second.add(vote.value, vote.sender),
         }
-        Some(posted::none())
+        Some(News::none())
     }
 }

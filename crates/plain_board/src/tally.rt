@@ -24,14 +24,16 @@ pub(crate) fn common<R: FailureRule>(voting: &Voting<R>, tally: &Tally) -> u8
     ensures low { result ≤ voting.now.characters }
     ensures value { Reads voting.now.characters common_of tally.now result }
 {
-    let found = voting.lowest(|v| v != 0 && tally.values[v as usize] == tally.all);
-    found.unwrap_or(0)
+    voting
+        .lowest_character(|v| tally.values[v as usize] == tally.all)
+        .unwrap_or(0)
 }
 
 // The lowest character that some sender's word bears, or 0.
 pub(crate) fn least<R: FailureRule>(voting: &Voting<R>, tally: &Tally) -> u8
     ensures { Reads voting.now.characters least_of tally.now result }
 {
-    let found = voting.lowest(|v| v != 0 && tally.values[v as usize] != 0);
-    found.unwrap_or(0)
+    voting
+        .lowest_character(|v| tally.values[v as usize] != 0)
+        .unwrap_or(0)
 }

@@ -1,6 +1,6 @@
 -- A memory keeps its first answer as further votes are counted, and has only answers that its test has given. Assumes nothing.
 use Rattle.std.proofs.Common.{◌≡◌, Bool, true, List, [], ◌∷◌, ◌++◌, Some, None, Option, refl, ⊎_elim}
-use Rattle.std.proofs.lemmas.Bool.{false≢true, or_cases, or_left}
+use Rattle.std.proofs.lemmas.Bool.{or_left}
 use Rattle.vote.specs.declared.Vote.{Vote}
 use Rattle.vote.specs.History.{memo, ever}
 use Rattle.vote.proofs.Options.{holds_none, else_cases, else_keeps}
@@ -34,8 +34,3 @@ module _ (t : List Vote → Bool) where
   pub ever_stays : (g h : List Vote) → ever t h ≡ true → ever t (g ++ h) ≡ true
   ever_stays [] h p = p
   ever_stays (w ∷ g) h p = ever_more w (g ++ h) (ever_stays g h p)
-
-  pub ever_sound : (P : List Vote → Type 0) → ((h : List Vote) → t h ≡ true → P h) → ((w : Vote) (h : List Vote) → P h → P (w ∷ h)) → (h : List Vote) → ever t h ≡ true → P h
-  unfolding ever
-  ever_sound P now more [] p = absurd (false≢true p)
-  ever_sound P now more (w ∷ h) p = ⊎_elim (λ e. more w h (ever_sound P now more h e)) (λ e. now (w ∷ h) e) (or_cases (ever t h) _ p)

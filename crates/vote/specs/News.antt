@@ -1,5 +1,5 @@
 -- The words that a method newly posts as one more vote is counted, as sets of values by kind. Assumes nothing.
-use Rattle.std.specs.Prelude.{ℕ, Bool, not, ◌&&◌, List, [], ◌∷◌}
+use Rattle.std.specs.Prelude.{ℕ, ◌-◌, ◌^◌, Bool, not, ◌&&◌, List, [], ◌∷◌, slice_set}
 use Rattle.quorum.specs.Sets.{set_of}
 use Rattle.vote.specs.declared.News.{News}
 use Rattle.vote.specs.declared.Vote.{Vote}
@@ -8,6 +8,13 @@ use Rattle.vote.specs.Setting.{Protocol}
 -- the values 0 to 8 that pass the test, as a set: value v adds 2 to the power v
 abbrev pub values : (ℕ → Bool) → ℕ
 values p = set_of 9 p
+
+abbrev pub no_news : News
+no_news = record { kinds = 0 ∷ 0 ∷ 0 ∷ 0 ∷ 0 ∷ [] }
+
+-- the word of kind c with the value v alone
+abbrev pub one_word : ℕ → ℕ → News
+one_word c v = record { kinds = slice_set no_news.kinds (c - 1) (2 ^ v) }
 
 module _ (M : Protocol) (start : ℕ) where
   -- posted once w is counted after h, and not before

@@ -1,5 +1,5 @@
 // What a board says, decides and orders: the plain data of the vote, and, in specs/, what a board has counted, as a list, and what a method is.
-// `conversions` makes a method and a depth of what stands for them, `graded` a decision of a value, `limits` has the sizes, and `voting` is what is settled before a vote.
+// `conversions` makes a method and a depth of what stands for them, `graded` a decision of a value, `limits` has the sizes, `posted` makes the news of one word, and `voting` is what is settled before a vote.
 // How a board stores what it has counted, how words travel and how boards are joined is left to the crates above.
 
 #![tactic(auto)]
@@ -7,6 +7,7 @@
 pub mod conversions;
 pub mod graded;
 pub mod limits;
+pub mod posted;
 pub mod voting;
 
 pub use conversions::{UnknownDepth, UnknownMethod};

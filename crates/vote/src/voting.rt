@@ -1,5 +1,5 @@
 // What is settled before a vote begins, and a look through the values under it.
-ghost use Rattle.std.specs.Prelude.{◌≡◌, ℕ, suc, ◌≤◌, Bool};
+ghost use Rattle.std.specs.Prelude.{◌≡◌, ℕ, suc, ◌≤◌, Bool, false};
 ghost use Rattle.vote.specs.Limits.{max_characters};
 ghost use Rattle.vote.specs.Search.{seek};
 
@@ -27,6 +27,18 @@ impl<'a, R: FailureRule> Voting<'a, R> {
                 requires { F.pre passes v }
                 ensures { F.post passes v result }
             { passes(v) },
+        )
+    }
+
+    // The lowest character that passes: 0 is none.
+    pub fn lowest_character<F: Fn(u8) -> bool>(&self, passes: F) -> Option<u8>
+        requires { (v : ℕ) → v ≤ self.now.characters → F.pre passes v }
+        ensures { (p : ℕ → Bool) → p 0 ≡ false → ((v : ℕ) (b : Bool) → 1 ≤ v → v ≤ self.now.characters → F.post passes v b → b ≡ p v) → result ≡ seek (suc self.now.characters) p }
+    {
+        self.lowest(
+            |v|
+                requires { F.pre passes v }
+            { v != 0 && passes(v) },
         )
     }
 }

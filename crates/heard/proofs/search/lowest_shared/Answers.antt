@@ -5,7 +5,7 @@ use Rattle.heard.proofs.search.lowest_shared.Goals as goal
 
 pub returns-then-not-ample : goal.returns-then-not-ample
 returns-then-not-ample g c = λ f e.
-    none_shared (g.R.FailureRule.meaning c.args.voting.now.rule.now) c.args.voting.now.characters c.args.voting.now.few c.args.from f c.args.tally.now e c.if-not-ample.ensures.facts (sym c.if-not-ample.ensures.value)
+    none_shared c.args.voting.now c.args.from f c.args.tally.now e c.if-not-ample.ensures.facts (sym c.if-not-ample.ensures.value)
 
 pub returns : goal.returns
-returns g c = λ f e. c.lowest_ample.ensures ∙ shared_is (g.R.FailureRule.meaning c.args.voting.now.rule.now) c.args.voting.now.characters c.args.voting.now.few c.args.from f c.args.tally.now e
+returns g c = λ f e. c.lowest_ample.ensures ∙ shared_is c.args.voting.now c.args.from f c.args.tally.now e

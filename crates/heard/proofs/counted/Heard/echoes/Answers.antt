@@ -10,4 +10,4 @@ pub returns : goal.returns
 unfolding echoes
 returns g c = λ d x e.
     ap₂ (λ a b. bit_or a (bool_byte b)) c.strong_values-strong.ensures (c.parted.ensures d x e)
-    ∙ echoes_is (g.R.FailureRule.meaning c.args.voting.now.rule.now) c.args.voting.now.characters c.args.voting.now.few c.args.self.now x e _
+    ∙ echoes_is c.args.voting.now c.args.self.now x e _

@@ -6,4 +6,4 @@ use Rattle.heard.proofs.counted.Heard.parted.Goals as goal
 
 pub returns : goal.returns
 unfolding parted
-returns g c = λ d x e. c.parted_among.ensures ∙ parted_is (g.R.FailureRule.meaning c.args.voting.now.rule.now) c.args.voting.now.characters c.args.voting.now.few c.args.self.now x e
+returns g c = λ d x e. c.parted_among.ensures ∙ parted_is c.args.voting.now c.args.self.now x e

@@ -3,8 +3,8 @@ use Rattle.std.proofs.Common.{sym, ◌∙◌, rules, tests}
 use Rattle.std.proofs.lemmas.Bool.{cond-true, cond-false, eq-eqb, ne_eqb}
 use Rattle.vote.specs.declared.Depth.TheVariants.{One, Two}
 use Rattle.echo_board.proofs.Memory.{else_made, found_one, found_two}
-use Rattle.echo_board.proofs.board.EchoRecord.find.Goals as goal
-use Rattle.echo_board.proofs.board.EchoRecord.find.Goals.{then-kind-eq-ECHO, else-kind-eq-ECHO}
+use Rattle.echo_board.proofs.findings.Findings.find.Goals as goal
+use Rattle.echo_board.proofs.findings.Findings.find.Goals.{then-kind-eq-ECHO, else-kind-eq-ECHO}
 
 pub returns-in-One : goal.returns-in-One
 returns-in-One g c = λ x e.
