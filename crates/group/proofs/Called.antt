@@ -1,5 +1,5 @@
 -- What stands against a call, by the tests that the code makes on the records. Assumes nothing.
-use Rattle.std.proofs.Common.{◌≡◌, ℕ, ◌<◌, Bool, true, false, cond, not, ◌&&◌, ◌||◌, ltb, List, Some, None, is_some, get_or, sym, ◌∙◌, ap, ap₂, arith}
+use Rattle.std.proofs.Common.{◌≡◌, ℕ, ◌<◌, Bool, true, cond, not, ◌&&◌, ◌||◌, ltb, List, Some, None, is_some, get_or, sym, ◌∙◌, ap₂, arith}
 use Rattle.quorum.specs.Rules.{Rule}
 use Rattle.vote.specs.Search.{given}
 use Rattle.agreement.specs.Runs.{start_of, posted}

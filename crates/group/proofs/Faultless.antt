@@ -1,12 +1,11 @@
 -- What it says that nothing stands against a call. Assumes nothing.
-use Rattle.std.proofs.Common.{◌≡◌, ℕ, ◌<◌, Bool, true, false, cond, not, ◌&&◌, ◌||◌, ltb, List, Some, None, Option, refl}
+use Rattle.std.proofs.Common.{◌≡◌, ℕ, ◌<◌, true, false, not, ◌&&◌, ◌||◌, ltb, List, Some, None, Option, refl}
 use Rattle.std.proofs.lemmas.Bool.{and_parts, or_parts, not-true, ltb-true}
 use Rattle.quorum.specs.Rules.{Rule}
 use Rattle.quorum.specs.Truth.{clash}
 use Rattle.vote.specs.Search.{given}
 use Rattle.agreement.specs.Runs.{Event, start_of, posted}
 use Rattle.board.proofs.Good.{none_failed}
-use Rattle.group.specs.declared.fault.GroupFault.{GroupFault}
 use Rattle.group.specs.declared.terms.Terms.{Terms}
 use Rattle.group.specs.Calls.{start_fault, carry_fault, forge_fault}
 use Rattle.group.specs.Promises.{Honest}

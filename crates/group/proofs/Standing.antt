@@ -64,7 +64,7 @@ module _ {R : Rule} {T : Terms} (law : Lawful R) (accepted : Opened R T) (xs : L
   unfolding posted
   posted_is i c v b on is =
       let s = given_found _ on in
-      let k : start_of run i ≡ Some (start_at T i) = s.1 ∙ ap {B = Option ℕ} Some (sym (run_keeps R T xs i s.0 s.1)) in
+      let k : start_of run i ≡ Some (start_at T i) = s.1 ∙ ap {B = Option ℕ} Some (sym (run_keeps law accepted xs i s.0 s.1)) in
       rw k is
 
   -- no other kinds and values are posted
