@@ -1,7 +1,6 @@
 use Rattle.std.proofs.Common.{ap, sym, option_copied, ◌∙◌, arith}
 use Rattle.std.proofs.lemmas.Option.{MatchOption-at_none, MatchOption-at_some}
-use Rattle.group.proofs.Standing.{kind_unposted, value_unposted}
-use Rattle.group.proofs.Posted.{started_there, posted_told}
+use Rattle.group.proofs.Posted.{kind_unposted, value_unposted, started_there, posted_told}
 use Rattle.group.proofs.group.Group.posted.Goals as goal
 use Rattle.group.proofs.group.Group.posted.Goals.{then-kind-gt-MAX_KIND-via-then-kind-gt-MAX_KIND, then-kind-gt-MAX_KIND-via-else-kind-gt-MAX_KIND+then-value-gt-MAX_VALUE}
 
