@@ -15,30 +15,23 @@ returns-then-not-has_both-clause-plays g c =
 
 pub returns-then-lies-clause-plays : goal.returns-then-lies-clause-plays
 returns-then-lies-clause-plays g c =
-    let R = g.R.FailureRule.meaning c.args.self.now.rule in
     carry_refused c.args.self.now.terms c.args.self.now.records (g.met.R.FailureRule.lawful c.args.self.now.rule) c.args.to c.args.from c.args.kind c.args.value Listed
     (λ sent. elim c.then-lies.branch [
-      | then-lies-via-then-lies w ↦ let to = w.if-lies.ensures R in grind (arith, common_steps)
-      | then-lies-via-else-lies+then-lies-2 w ↦ let to = w.if-lies.ensures R in let from = w.if-lies-2.ensures R in grind (arith, common_steps)
+      | then-lies-via-then-lies w ↦ grind (arith, common_steps, w.if-lies.ensures)
+      | then-lies-via-else-lies+then-lies-2 w ↦ grind (arith, common_steps, w.if-lies.ensures, w.if-lies-2.ensures)
     ])
 
 pub returns-then-not-begun-clause-plays : goal.returns-then-not-begun-clause-plays
 returns-then-not-begun-clause-plays g c =
-    let R = g.R.FailureRule.meaning c.args.self.now.rule in
-    let to = c.if-lies.ensures R in
-    let from = c.if-lies-2.ensures R in
     carry_refused c.args.self.now.terms c.args.self.now.records (g.met.R.FailureRule.lawful c.args.self.now.rule) c.args.to c.args.from c.args.kind c.args.value Idle
-    (λ sent. grind (arith, common_steps))
+    (λ sent. grind (arith, common_steps, c.if-lies.ensures, c.if-lies-2.ensures))
 
 pub returns-then-not-posted-clause-plays : goal.returns-then-not-posted-clause-plays
 returns-then-not-posted-clause-plays g c =
-    let R = g.R.FailureRule.meaning c.args.self.now.rule in
     let T = c.args.self.now.terms in
     let o = c.args.self.now.records in
-    let to = c.if-lies.ensures R in
-    let from = c.if-lies-2.ensures R in
     refused (g.met.R.FailureRule.lawful c.args.self.now.rule) (carrying c.args.to c.args.from c.args.kind c.args.value) o Unposted
-    (λ xs reached. sym (grind (arith, common_steps)) ∙ carry_stands T o xs reached c.args.to c.args.from c.args.kind c.args.value _ (c.if-not-posted.ensures.value xs reached))
+    (λ xs reached. sym (grind (arith, common_steps, c.if-lies.ensures, c.if-lies-2.ensures)) ∙ carry_stands T o xs reached c.args.to c.args.from c.args.kind c.args.value _ (c.if-not-posted.ensures.value xs reached))
 
 pub returns-clause-plays : goal.returns-clause-plays
 returns-clause-plays g c =
@@ -46,10 +39,8 @@ returns-clause-plays g c =
     let T = c.args.self.now.terms in
     let o = c.args.self.now.records in
     let law = g.met.R.FailureRule.lawful c.args.self.now.rule in
-    let to = c.if-lies.ensures R in
-    let from = c.if-lies-2.ensures R in
     let stands : StandsAgainst R T (carrying c.args.to c.args.from c.args.kind c.args.value) o None =
-    λ xs reached. sym (grind (arith, common_steps)) ∙ carry_stands T o xs reached c.args.to c.args.from c.args.kind c.args.value _ (c.if-not-posted.ensures.value xs reached) in
+    λ xs reached. sym (grind (arith, common_steps, c.if-lies.ensures, c.if-lies-2.ensures)) ∙ carry_stands T o xs reached c.args.to c.args.from c.args.kind c.args.value _ (c.if-not-posted.ensures.value xs reached) in
     accepted law (carrying c.args.to c.args.from c.args.kind c.args.value) o _ _ stands
     (λ xs reached.
     takes_there T o c.args.to _ _ _ _ (c.bring.ensures.brings (posted_carried law o c.args.to c.args.from c.args.kind c.args.value stands xs reached)) c.if-not-begun.ensures xs reached)

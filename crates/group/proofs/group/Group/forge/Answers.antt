@@ -12,30 +12,20 @@ returns-then-not-has_both-clause-plays g c =
 
 pub returns-then-lies-clause-plays : goal.returns-then-lies-clause-plays
 returns-then-lies-clause-plays g c =
-    let R = g.R.FailureRule.meaning c.args.self.now.rule in
-    let taker = c.if-lies.ensures R in
-    forge_refused c.args.self.now.terms c.args.self.now.records (g.met.R.FailureRule.lawful c.args.self.now.rule) c.args.to c.args.from c.args.bytes.now Listed (grind (arith, common_steps))
+    forge_refused c.args.self.now.terms c.args.self.now.records (g.met.R.FailureRule.lawful c.args.self.now.rule) c.args.to c.args.from c.args.bytes.now Listed (grind (arith, common_steps, c.if-lies.ensures))
 
 pub returns-then-not-begun-clause-plays : goal.returns-then-not-begun-clause-plays
 returns-then-not-begun-clause-plays g c =
-    let R = g.R.FailureRule.meaning c.args.self.now.rule in
-    let taker = c.if-lies.ensures R in
-    forge_refused c.args.self.now.terms c.args.self.now.records (g.met.R.FailureRule.lawful c.args.self.now.rule) c.args.to c.args.from c.args.bytes.now Idle (grind (arith, common_steps))
+    forge_refused c.args.self.now.terms c.args.self.now.records (g.met.R.FailureRule.lawful c.args.self.now.rule) c.args.to c.args.from c.args.bytes.now Idle (grind (arith, common_steps, c.if-lies.ensures))
 
 pub returns-then-not-lies-clause-plays : goal.returns-then-not-lies-clause-plays
 returns-then-not-lies-clause-plays g c =
-    let R = g.R.FailureRule.meaning c.args.self.now.rule in
-    let taker = c.if-lies.ensures R in
-    let forger = c.if-not-lies.ensures R in
-    forge_refused c.args.self.now.terms c.args.self.now.records (g.met.R.FailureRule.lawful c.args.self.now.rule) c.args.to c.args.from c.args.bytes.now Unlisted (grind (arith, common_steps))
+    forge_refused c.args.self.now.terms c.args.self.now.records (g.met.R.FailureRule.lawful c.args.self.now.rule) c.args.to c.args.from c.args.bytes.now Unlisted (grind (arith, common_steps, c.if-lies.ensures, c.if-not-lies.ensures))
 
 pub returns-clause-plays : goal.returns-clause-plays
 returns-clause-plays g c =
-    let R = g.R.FailureRule.meaning c.args.self.now.rule in
     let T = c.args.self.now.terms in
     let o = c.args.self.now.records in
-    let taker = c.if-lies.ensures R in
-    let forger = c.if-not-lies.ensures R in
     accepted (g.met.R.FailureRule.lawful c.args.self.now.rule) (forging c.args.to c.args.from c.args.bytes.now) o _ _
-    (λ xs reached. sym (grind (arith, common_steps)) ∙ forge_stands T o c.args.to c.args.from c.args.bytes.now xs reached)
+    (λ xs reached. sym (grind (arith, common_steps, c.if-lies.ensures, c.if-not-lies.ensures)) ∙ forge_stands T o c.args.to c.args.from c.args.bytes.now xs reached)
     (takes_there T o c.args.to c.args.from c.args.bytes.now _ _ c.take.ensures.takes c.if-not-begun.ensures)

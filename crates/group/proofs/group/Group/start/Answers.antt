@@ -38,8 +38,7 @@ returns-clause-plays g c =
     let T = c.args.self.now.terms in
     let o = c.args.self.now.records in
     let law = g.met.R.FailureRule.lawful c.args.self.now.rule in
-    let lies = c.if-lies.ensures R in
-    accepted law (starting c.args.board) o _ _ (λ xs reached. sym (grind (arith, common_steps)) ∙ start_stands T o c.args.board xs reached)
+    accepted law (starting c.args.board) o _ _ (λ xs reached. sym (grind (arith, common_steps, c.if-lies.ensures)) ∙ start_stands T o c.args.board xs reached)
     (λ xs reached. (
       records_start R T (run_of R T xs) o c.args.board c.record.result c.in-Some.ensures.0 (shown_run xs reached)
           (unheard law reached.opened xs c.args.board (sym (c.if-begun.ensures ∙ begun_at R T (run_of R T xs) o (shown_run xs reached) c.args.board c.in-Some.ensures.0)))
