@@ -18,11 +18,6 @@ returns-in_err-rule c =
     let p = err_from_is_err_and c.from_residual-in_err-rule.result c.from_residual-in_err-rule.ensures.1 in
     rw (p.1, p.2) (rule_some (opening_of c.args.plan.now) c.in_ok-check_sizes.ensures _ c.in_err-rule.ensures)
 
-pub asked-opening-requires : goal.asked-opening-requires
-asked-opening-requires c =
-    let good = sizes_good (opening_of c.args.plan.now) c.in_ok-check_sizes.ensures in
-    subst (λ (n : ℕ). n ≤ 16) (sym c.requires) (within_parts 1 16 c.args.plan.now.crew good.crew).1
-
 pub returns-in_err-open : goal.returns-in_err-open
 returns-in_err-open c =
     let p = err_from_is_err_and c.from_residual-in_err-open.result c.from_residual-in_err-open.ensures.1 in
