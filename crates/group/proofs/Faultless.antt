@@ -32,7 +32,6 @@ module _ (R : Rule) (T : Terms) (r : List Event) where
     pub taker : Honest R T to
     pub sender : Honest R T from
     pub begun : given (start_of r to) ≡ true
-    pub sender_begun : given (start_of r from) ≡ true
     pub word_posted : posted (method_in R T) r from c v ≡ true
 
   pub may_carry : (to from c v : ℕ) → given (carry_fault R T r to from c v) ≡ false → MayCarry to from c v
@@ -49,7 +48,6 @@ module _ (R : Rule) (T : Terms) (r : List Event) where
         taker = (ltb-true _ _ both.0, neither.0);
         sender = (ltb-true _ _ both.1, neither.1);
         begun = on.0;
-        sender_begun = on.1;
         word_posted = sent.0;
       }
 
