@@ -1,11 +1,10 @@
-use Rattle.std.proofs.Common.{ℕ, ◌≤◌, sym, ap, ◌∙◌, subst}
+use Rattle.std.proofs.Common.{ap, ◌∙◌}
 use Rattle.std.proofs.lemmas.Result.{err_from_is_err_and}
 use Rattle.std.specs.Option.{option_map}
 use Rattle.lines.specs.Told.{opening_of}
 use Rattle.quorum.specs.Meaning.{either_rule}
-use Rattle.wire.proofs.FrameText.{within_parts}
 use Rattle.session.specs.declared.fault.SessionFault.TheVariants.{Group as OfGroup}
-use Rattle.session.proofs.Openings.{sizes_some, sizes_good, rule_some, group_asked, settles}
+use Rattle.session.proofs.Openings.{sizes_some, rule_some, group_asked, settles}
 use Rattle.session.proofs.opened.opened.Goals as goal
 
 pub returns-in_err-check_sizes : goal.returns-in_err-check_sizes
