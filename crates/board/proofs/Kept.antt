@@ -1,5 +1,5 @@
 -- What a started board keeps to, from what its method's board does. Assumes nothing.
-use Rattle.std.proofs.Common.{◌≡◌, ℕ, true, eqb, List, [], ◌∷◌, Some, None, Option, sym, ◌∙◌, arith}
+use Rattle.std.proofs.Common.{◌≡◌, ℕ, true, eqb, List, [], ◌∷◌, Some, None, Option, sym, ◌∙◌}
 use Rattle.std.proofs.lemmas.Bool.{and_parts, cond-false, cond_both, eqb-true, ne_eqb}
 use Rattle.quorum.specs.Rules.{Lawful}
 use Rattle.vote.specs.declared.Method.{Method}
@@ -16,7 +16,7 @@ use Rattle.board.specs.Shown.{method_of}
 use Rattle.board.specs.Laws.{MethodFacts}
 
 is_once : (o : Option ℕ) (u v : ℕ) → is u o ≡ true → is v o ≡ true → u ≡ v
-is_once None u v a b = let z : ◌≡◌ {A = ℕ} 0 1 = cc in absurd (let n : ⊥ = omega arith in n)
+is_once None u v a b = absurd (cc)
 is_once (Some x) u v a b = eqb-true u x a ∙ sym (eqb-true v x b)
 
 plain_once : (S : Setting) (s : ℕ) (h : List Vote) (c u v : ℕ) → (c ≡ 1 → ⊥) → posts S s h c u ≡ true → posts S s h c v ≡ true → u ≡ v

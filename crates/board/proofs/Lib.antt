@@ -6,4 +6,3 @@ pub mod Words
 pub mod Kept
 pub mod Six
 pub mod MarkedCases
-pub mod Posted

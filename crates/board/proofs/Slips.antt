@@ -1,5 +1,5 @@
 -- A fitted board's address is one that frames can carry, so that it always gets its slip. Assumes nothing.
-use Rattle.std.proofs.Common.{◌≡◌, ℕ, ◌≤◌, true, None, Ok, Err, Result, sym, ap, ◌∙◌, arith, lit≤}
+use Rattle.std.proofs.Common.{◌≡◌, ◌≤◌, true, None, Ok, Err, Result, sym, ap, ◌∙◌, arith, lit≤}
 use Rattle.std.proofs.lemmas.Bool.{and_parts}
 use Rattle.vote.specs.declared.News.{News}
 use Rattle.wire.specs.declared.fault.FrameFault.{FrameFault}
@@ -26,7 +26,6 @@ pub record Numbers (f : Fit) : Type 0 where
   pub change_low : 1 ≤ f.change
   pub change_high : f.change ≤ 65535
   pub board_high : f.board ≤ 15
-  pub start_low : 1 ≤ f.start
   pub start_high : f.start ≤ f.characters
 
 pub numbers : (f : Fit) → Sound f → Numbers f
@@ -42,7 +41,6 @@ numbers f sound =
       change_low = (within_parts 1 max_id f.change c.0).0;
       change_high = (within_parts 1 max_id f.change c.0).1;
       board_high = (within_parts 0 max_sender f.board b.0).1;
-      start_low = (within_parts 1 f.characters f.start b.1).0;
       start_high = (within_parts 1 f.characters f.start b.1).1;
     }
 
@@ -71,5 +69,4 @@ module _ (f : Fit) (sound : Sound f) where
   pub never_refused : (n : News) (r : Result Slip FrameFault) (e : FrameFault) → mapped (λ s. s.posted) r ≡ unless (range_fault (word_of (posted_of f n) 1 0)) (Ok (posted_of f n)) → r ≡ Err e → ⊥
   never_refused n r e made err =
       let is : ◌≡◌ {A = Result Posted FrameFault} (Err e) (Ok (posted_of f n)) =
-      ap (λ (x : Result Slip FrameFault). mapped (λ s. s.posted) x) (sym err) ∙ made ∙ ap (λ o. unless o (Ok (posted_of f n))) (address_good n) in
-      let z : ◌≡◌ {A = ℕ} 0 1 = cc in omega arith
+      ap (λ (x : Result Slip FrameFault). mapped (λ s. s.posted) x) (sym err) ∙ made ∙ ap (λ o. unless o (Ok (posted_of f n))) (address_good n) in cc

@@ -36,6 +36,7 @@ impl Fitting {
     }
 
     // The record of a board that has counted nothing.
+    #[tactic(auto, using(crate::proofs::Steps::plain_shows, crate::proofs::Steps::echo_shows))]
     pub fn record(&self) -> Record
         ensures { (R : Rule) → result ≡ record_of R self.now.fit [] }
     {
@@ -46,6 +47,7 @@ impl Fitting {
     }
 
     // The slip that goes with the start: it has the board's first word.
+    #[tactic(auto, using(crate::proofs::Six::first_fits, crate::proofs::Slips::start_below, crate::proofs::Starts::started_news), unfolding(crate::specs::Started::first_posted))]
     pub fn first_slip(&self) -> Slip
         ensures value { (R : Rule) → result.posted ≡ first_posted R self.now.fit }
         ensures fits { length (words_of result.posted) * 19 ≤ 114 }
@@ -54,6 +56,7 @@ impl Fitting {
     }
 
     // Takes a frame on a port: the word is counted, or found counted already, and the slip has the words just posted; or it is refused, and nothing changes.
+    #[tactic(auto, using(crate::proofs::Words::good_word))]
     pub fn take<R: FailureRule>(
         &self,
         rule: &R,

@@ -26,6 +26,7 @@ pub struct Started<R: FailureRule> {
 
 impl<R: FailureRule> Fitted<R> {
     // Starts the board, which is then no longer merely fitted. The slip has its first word.
+    #[tactic(auto, using(crate::proofs::MarkedCases::marked_cases_hold))]
     pub fn start(self) -> (Started<R>, Slip)
         ensures same { (result.0.rule ≡ self.rule) × (result.0.fitting ≡ self.fitting) }
         ensures state { result.0.state ≡ record_of (R.meaning self.rule) self.fitting.fit [] }

@@ -1,5 +1,5 @@
 -- What an accepted opening settles: good terms, and records of which no board has started. Assumes nothing.
-use Rattle.std.proofs.Common.{◌≡◌, ℕ, zero, suc, ◌<◌, ◌≤◌, Bool, true, not, ◌&&◌, ltb, leb, List, [], ◌∷◌, length, get_or, take, replicate, None, sym, refl, ap, ◌∙◌, subst, ⊎_elim, arith}
+use Rattle.std.proofs.Common.{◌≡◌, ℕ, suc, ◌<◌, ◌≤◌, Bool, true, not, ◌&&◌, ltb, leb, List, [], ◌∷◌, length, get_or, take, replicate, None, sym, refl, ap, ◌∙◌, subst, ⊎_elim, arith}
 use Rattle.std.proofs.lemmas.List.{get_or-take, length-take-le}
 use Rattle.std.proofs.lemmas.List.FromFn.{length-map-range_with_len}
 use Rattle.std.proofs.lemmas.Bool.{and_parts, and_from, eq-eqb, cond-true, cond-false, ltb-false, le-leb, lt-ltb, le-ltb, not-true, cases_lt}
@@ -67,12 +67,6 @@ cover_needed : (m : Method) (c : ℕ) → 2 ≤ c → not (echo_under_two m c) �
 cover_needed Plain c l p = l
 cover_needed Echo c l p = ltb-false c 3 (not-true _ p)
 
--- the tests, one after the other
-pub passed : (R : Rule) (o : Opening) → vote_fault R o.method o.depth o.characters ≡ None → address_fault o.group o.change ≡ None
-    → all_characters o.characters (take R.crew o.starts) ≡ true → R.fails o.listed ≡ true → opening_fault R o ≡ None
-unfolding opening_fault
-passed R o v a s f = grind (arith, common_steps)
-
 module _ (R : Rule) (o : Opening) (none : opening_fault R o ≡ None) where
   pub record Accepted : Type 0 where
     pub numbers : length o.starts ≡ 16 → GoodOpening R.crew o
@@ -125,6 +119,15 @@ module _ (R : Rule) (o : Opening) (none : opening_fault R o ≡ None) where
         cover_fits = a.cover_fits;
         listed_may_fail = ap R.fails s.listed ∙ a.listed_may_fail;
       }
+
+-- what the tests of an opening tell, one after the other, where n is the crew
+pub passed : (R : Rule) (o : Opening) (n : ℕ) → n ≡ R.crew → vote_fault R o.method o.depth o.characters ≡ None → address_fault o.group o.change ≡ None
+    → true ≡ all_characters o.characters (take n o.starts) → true ≡ R.fails o.listed → length o.starts ≡ 16 → (opening_fault R o ≡ None) × GoodOpening n o
+unfolding opening_fault
+passed R o n crew v a s f len =
+    let starts : true ≡ all_characters o.characters (take R.crew o.starts) = rw crew at s in
+    let none : opening_fault R o ≡ None = grind (arith, common_steps) in
+    (none, rw crew ((accepted_parts R o none).numbers len))
 
 -- ---- the records
 pub first_records : (R : Rule) (T : Terms) → record { boards = replicate 16 None } ≡ after R T []

@@ -1,12 +1,11 @@
 -- One board takes a frame: its record, its answer, and that its slip always fits. Assumes nothing.
-use Rattle.std.proofs.Common.{◌≡◌, ℕ, ◌*◌, ◌≤◌, true, List, length, Some, Option, Ok, Err, Result, MatchResult, IfOk, IsErrAnd, is_ok, subst, sym, ap, ap₂, ◌∙◌}
+use Rattle.std.proofs.Common.{◌≡◌, ℕ, ◌*◌, ◌≤◌, true, List, length, Some, Option, Ok, Err, Result, MatchResult, IfOk, IsErrAnd, is_ok, subst, ap, ap₂, ◌∙◌}
 use Rattle.std.proofs.lemmas.Bool.{false≢true}
 use Rattle.quorum.specs.Rules.{Rule, Lawful}
 use Rattle.vote.specs.declared.Vote.{Vote}
 use Rattle.wire.specs.declared.fault.FrameFault.{FrameFault}
 use Rattle.wire.specs.declared.posted.Posted.{Posted}
 use Rattle.wire.specs.Slips.{words_of}
-use Rattle.wire.proofs.Outcomes.{ok_same}
 use Rattle.board.specs.declared.answer.Taken.{Taken}
 use Rattle.board.specs.declared.fit.Fit.{Fit}
 use Rattle.board.specs.declared.record.Record.{Record}
@@ -22,7 +21,7 @@ use Rattle.group.specs.Steps.{BoardTakes}
 
 -- what is Ok once its error is mapped was Ok before
 pub kept_ok : {X D E : Type 0} (r : Result X D) (t : Result X E) (Q : D → E → Type 0) (x : X) → MatchResult r (λ y. t ≡ Ok y) (λ e. IsErrAnd t (Q e)) → t ≡ Ok x → r ≡ Ok x
-kept_ok {X} {D} {E} (Ok y) t Q x m is = let same : y ≡ x = ok_same {E = E} y x (sym m ∙ is) in ap Ok same
+kept_ok {X} {D} {E} (Ok y) t Q x m is = cc
 kept_ok {X} {D} {E} (Err e) t Q x m is = absurd (subst (λ (u : Result X E). IsErrAnd u (Q e)) is m)
 
 module _ (R : Rule) (f : Fit) (port : ℕ) (xs : List ℕ) (o p : Record) where

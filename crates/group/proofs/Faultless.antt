@@ -1,12 +1,11 @@
 -- What it says that nothing stands against a call. Assumes nothing.
-use Rattle.std.proofs.Common.{◌≡◌, ℕ, ◌<◌, Bool, true, false, cond, not, ◌&&◌, ◌||◌, ltb, List, Some, None, Option, refl}
+use Rattle.std.proofs.Common.{◌≡◌, ℕ, ◌<◌, true, false, not, ◌&&◌, ◌||◌, ltb, List, Some, None, Option, refl}
 use Rattle.std.proofs.lemmas.Bool.{and_parts, or_parts, not-true, ltb-true}
 use Rattle.quorum.specs.Rules.{Rule}
 use Rattle.quorum.specs.Truth.{clash}
 use Rattle.vote.specs.Search.{given}
 use Rattle.agreement.specs.Runs.{Event, start_of, posted}
 use Rattle.board.proofs.Good.{none_failed}
-use Rattle.group.specs.declared.fault.GroupFault.{GroupFault}
 use Rattle.group.specs.declared.terms.Terms.{Terms}
 use Rattle.group.specs.Calls.{start_fault, carry_fault, forge_fault}
 use Rattle.group.specs.Promises.{Honest}
@@ -33,7 +32,6 @@ module _ (R : Rule) (T : Terms) (r : List Event) where
     pub taker : Honest R T to
     pub sender : Honest R T from
     pub begun : given (start_of r to) ≡ true
-    pub sender_begun : given (start_of r from) ≡ true
     pub word_posted : posted (method_in R T) r from c v ≡ true
 
   pub may_carry : (to from c v : ℕ) → given (carry_fault R T r to from c v) ≡ false → MayCarry to from c v
@@ -50,7 +48,6 @@ module _ (R : Rule) (T : Terms) (r : List Event) where
         taker = (ltb-true _ _ both.0, neither.0);
         sender = (ltb-true _ _ both.1, neither.1);
         begun = on.0;
-        sender_begun = on.1;
         word_posted = sent.0;
       }
 

@@ -24,7 +24,7 @@ fit_sound T i s l is =
 
 echo_lies : (m : Method) (S : Setting) (b : Bool) → m ≡ Echo → b ≡ ((method_of m S).may_lie && b)
 echo_lies Echo S b e = refl
-echo_lies Plain S b e = absurd (let z : ◌≡◌ {A = ℕ} 0 1 = cc in omega arith)
+echo_lies Plain S b e = absurd (cc)
 
 pub listed_lies : (R : Rule) (T : Terms) (i : ℕ) → T.method ≡ Echo → member i T.listed ≡ lies R T i
 listed_lies R T i e = echo_lies T.method (setting_in R T) (member i T.listed) e

@@ -7,7 +7,6 @@ pub mod Legal
 pub mod Carried
 pub mod Onward
 pub mod Outside
-pub mod Standing
 pub mod Posted
 pub mod Bringing
 pub mod Played

@@ -88,7 +88,7 @@ module _ {R : Rule} {T : Terms} (law : Lawful R) (accepted : Opened R T) where
 
   after_call : (xs : List Call) (x : Call) (i : ℕ) → given (start_of (run_of R T xs) i) ≡ true → given (start_of (run_of R T (x ∷ xs)) i) ≡ true
   after_call xs x i p =
-      let g = run_grown R T (x ∷ []) xs in
+      let g = run_grown law accepted (x ∷ []) xs in
       let k = given_found _ p in
       given_from (ap (λ (r : List Event). start_of r i) g.1 ∙ start_later g.0 (run_of R T xs) i k.0 k.1)
 

@@ -27,15 +27,15 @@ module _ {R : Rule} {T : Terms} (law : Lawful R) (accepted : Opened R T) where
       record {
         decisions_at_most_one_step_apart = p.decisions_at_most_one_step_apart;
         decisions_in_the_span = λ i d h e.
-            let s = p.decisions_in_the_span (start_at T) (λ j c hj q. run_keeps R T xs j c q) i d h e in
+            let s = p.decisions_in_the_span (start_at T) (λ j c hj q. run_keeps law accepted xs j c q) i d h e in
             record { where_all_are_one = λ v all. s.where_all_are_one v (λ j c hj q. sym q ∙ all j hj); none_or_one_of_them = s.none_or_one_of_them };
         the_first_decision_binds = λ one ys zs u v du dv.
-            let a = run_grown R T ys xs in
-            let b = run_grown R T zs xs in
+            let a = run_grown law accepted ys xs in
+            let b = run_grown law accepted zs xs in
             p.the_first_decision_binds one (start_at T) a.0 b.0
             (subst (Legal M C) a.1 (run_legal law accepted (ys ++ xs))) (subst (Legal M C) b.1 (run_legal law accepted (zs ++ xs)))
-            (subst (runs.KeepsTo M C (start_at T)) a.1 (λ j c hj q. run_keeps R T (ys ++ xs) j c q))
-            (subst (runs.KeepsTo M C (start_at T)) b.1 (λ j c hj q. run_keeps R T (zs ++ xs) j c q))
+            (subst (runs.KeepsTo M C (start_at T)) a.1 (λ j c hj q. run_keeps law accepted (ys ++ xs) j c q))
+            (subst (runs.KeepsTo M C (start_at T)) b.1 (λ j c hj q. run_keeps law accepted (zs ++ xs) j c q))
             u v (subst (λ (r : List Event). runs.DecidedOn M C r u) a.1 du) (subst (λ (r : List Event). runs.DecidedOn M C r v) b.1 dv);
         all_counted_all_decided = λ begun delivered. p.all_counted_all_decided begun delivered;
         all_can_be_counted = let k = all_can_be_counted law accepted xs in (k.0, k.1.0, k.1.1);

@@ -1,5 +1,5 @@
 // A group is opened: its terms are settled, and no board has started.
-ghost use Rattle.std.specs.Prelude.{◌≡◌, [], if◌then◌else◌, nat_le, Some, None, MatchResult};
+ghost use Rattle.std.specs.Prelude.{◌≡◌, ◌≤◌, [], Some, None, MatchResult};
 ghost use Rattle.heard.specs.Shown.{table};
 ghost use Rattle.board.specs.Fitting.{Judged};
 ghost use Rattle.group.specs.Opening.{opening_fault, Settles, kept_start};
@@ -24,21 +24,13 @@ fn all_characters(last: u32, starts: &[u16]) -> bool
         .all(|start| (1..=last).contains(&u32::from(*start)))
 }
 
-// A starting character in the size that a board keeps it; 1 stands in for a board beyond the crew.
-fn own_start(inside: bool, start: u16) -> u8
-    ensures { result ≡ (if inside then (if nat_le start 255 then start else 255) else 1) }
-{
-    if inside { start.min(255) as u8 } else { 1 }
-}
-
+// The starting characters in the size that a board keeps them; 1 stands in for a board beyond the crew.
 fn own_starts(starts: &[u16; BOARDS], crew: u8) -> [u8; BOARDS]
+    requires { crew ≤ 16 }
     ensures { result ≡ table 16 (kept_start crew starts.now) }
 {
-    let mut own = [1; BOARDS];
-    // tried with `array::from_fn`: the proof that each place has what the closure gives did not close
-    for i in 0..BOARDS {
-        own[i] = own_start(i < crew as usize, starts[i]);
-    }
+    let mut own = starts.map(|start| start.min(255) as u8);
+    own[crew as usize..].fill(1);
     own
 }
 

@@ -10,6 +10,7 @@ use vote::Method;
 
 impl Terms {
     // The settings of a board, if it is one of the sixteen that there can be.
+    #[tactic(auto, using(crate::proofs::Fits::fit_sound))]
     pub(crate) fn fitting(&self, board: u16) -> Option<Fitting>
         ensures { MatchOption result (16 ≤ board) (λ k. (board < 16) × (k.fit ≡ fit_at self.now board)) }
     {

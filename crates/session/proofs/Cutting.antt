@@ -4,6 +4,7 @@ use Rattle.std.proofs.lemmas.Bool.{cases_lt, lt-leb}
 use Rattle.std.proofs.lemmas.List.{take_all}
 use Rattle.std.specs.Prelude.{◌==◌, nat_lt, nat_le, slice_index}
 use Rattle.lines.specs.Calls.{unreadable}
+use Rattle.session.specs.Gathering.{ReadsTheSame}
 use Rattle.lines.specs.Lines.{lettered, line_feed, max_line, call_by, call_in}
 
 third_fails : (a b d : Bool) → (a && b && false && d) ≡ false
@@ -18,7 +19,8 @@ too_long xs h =
     ap (λ (b : Bool). cond (lettered xs && nat_lt 2 (length xs) && b && slice_index xs (length xs - 1) == line_feed) (call_by (slice_index xs 0) xs) unreadable) long
     ∙ ap (λ (b : Bool). cond b (call_by (slice_index xs 0) xs) unreadable) (third_fails (lettered xs) (nat_lt 2 (length xs)) (slice_index xs (length xs - 1) == line_feed))
 
-pub cut : (line : List ℕ) → call_in (take 122 line) ≡ call_in line
+pub cut : ReadsTheSame
+unfolding ReadsTheSame
 cut line =
     elim (cases_lt 122 (length line)) [
       | inl l ↦ too_long (take 122 line) (omega (arith, l, length-take 122 line)) ∙ sym (too_long line (omega (arith, l)))

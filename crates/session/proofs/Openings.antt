@@ -15,7 +15,6 @@ use Rattle.board.specs.declared.fault.BoardFault.TheVariants.{Start}
 use Rattle.board.proofs.Good.{none_failed}
 use Rattle.board.specs.Fitting.{echo_under_two}
 use Rattle.lines.specs.Calls.{Failing, by_count, by_sets, Opening}
-use Rattle.group.specs.declared.fault.GroupFault.{GroupFault}
 use Rattle.group.specs.declared.fault.GroupFault.TheVariants.{Opening as Against, Family}
 use Rattle.group.specs.declared.opening.Opening as asked
 use Rattle.group.specs.declared.terms.Terms.{Terms}

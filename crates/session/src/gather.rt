@@ -32,6 +32,7 @@ impl Gathered {
     }
 
     // The line, or the front of a longer one.
+    #[tactic(auto, using(crate::proofs::Cutting::cut))]
     pub fn line(&self) -> &[u8]
         ensures line { result.now ≡ items_of self.now.bytes }
         ensures a_line_cut_at_the_room_reads_the_same { ReadsTheSame }

@@ -1,11 +1,10 @@
 // What a line asks a group for.
-ghost use Rattle.std.specs.Prelude.{◌≡◌, ◌≤◌, length, take};
+ghost use Rattle.std.specs.Prelude.{◌≡◌, ◌≤◌, Some, None, length, take, MatchResult};
 ghost use Rattle.lines.specs.Told.{opening_of, starts_of};
 ghost use Rattle.quorum.specs.Faults.{Made};
 ghost use Rattle.quorum.specs.Meaning.{either_rule};
 ghost use Rattle.session.specs.Opening.{cover_of, rule_of};
 ghost use Rattle.session.specs.Asked.{rule_fault, sizes_fault, Asks};
-ghost use Rattle.std.specs.Result.{result_err};
 
 use crate::fault::SessionFault;
 use board::BoardFault;
@@ -38,7 +37,7 @@ pub(crate) fn rule(plan: &Plan) -> Result<EitherRule, RuleFault>
 
 // Whether the sizes are good, or what stands against the first that is not: crew, characters, depth.
 pub(crate) fn check_sizes(plan: &Plan) -> Result<(), SessionFault>
-    ensures { result_err result ≡ sizes_fault (opening_of plan.now) }
+    ensures { MatchResult result (λ _. sizes_fault (opening_of plan.now) ≡ None) (λ e. sizes_fault (opening_of plan.now) ≡ Some e) }
 {
     if !(1..=u16::from(MAX_CREW)).contains(&plan.crew) {
         return Err(SessionFault::Rule(RuleFault::Crew));

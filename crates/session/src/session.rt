@@ -16,6 +16,7 @@ pub struct Session {
 
 impl Session {
     // Before the first line nothing is open.
+    #[tactic(auto, unfolding(crate::specs::Standing::stands_after))]
     pub fn new() -> Session
         ensures { LedBy result.group [] }
     {

@@ -1,4 +1,4 @@
-use Rattle.board.proofs.Posted.{posted_by_plain, posted_by_echo}
+use Rattle.board.proofs.Steps.{posted_by_plain, posted_by_echo}
 use Rattle.board.proofs.Slips.{characters_low, start_below}
 use Rattle.board.proofs.fit.Fitting.has_posted.Goals as goal
 

@@ -1,7 +1,6 @@
 use Rattle.std.proofs.Common.{ap, sym, option_copied, ◌∙◌, arith}
-use Rattle.std.proofs.lemmas.Option.{MatchOption-at_none, MatchOption-at_some}
-use Rattle.group.proofs.Standing.{kind_unposted, value_unposted}
-use Rattle.group.proofs.Posted.{started_there, posted_told}
+use Rattle.std.proofs.lemmas.Option.{MatchOption-at_some}
+use Rattle.group.proofs.Posted.{kind_unposted, value_unposted, started_there, posted_told}
 use Rattle.group.proofs.group.Group.posted.Goals as goal
 use Rattle.group.proofs.group.Group.posted.Goals.{then-kind-gt-MAX_KIND-via-then-kind-gt-MAX_KIND, then-kind-gt-MAX_KIND-via-else-kind-gt-MAX_KIND+then-value-gt-MAX_VALUE}
 
@@ -17,11 +16,6 @@ pub returns-in_default-clause-value : goal.returns-in_default-clause-value
 returns-in_default-clause-value g c xs reached l on =
     absurd (started_there (g.met.R.FailureRule.lawful c.args.self.now.rule) reached.opened xs c.args.self.now.records reached.shown c.args.board (omega (arith, l, reached.opened.crew_fits)) on
     (sym c.record.ensures ∙ ap option_copied c.in_default.is-1))
-
-pub returns-in_default-2-clause-value : goal.returns-in_default-2-clause-value
-returns-in_default-2-clause-value g c xs reached l on =
-    let far = MatchOption-at_none _ _ c.in_default.is-0 c.fitting.ensures in
-    absurd (omega (arith, far, l, reached.opened.crew_fits))
 
 pub returns-clause-value : goal.returns-clause-value
 returns-clause-value g c xs reached l on =

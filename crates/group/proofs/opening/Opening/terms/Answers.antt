@@ -1,33 +1,20 @@
-use Rattle.std.proofs.Common.{◌≡◌, ℕ, true, length, take, sym, refl, ap, ◌∙◌, subst, rules}
-use Rattle.heard.specs.Shown.{table}
-use Rattle.group.specs.Opening.{kept_start, GoodOpening}
-use Rattle.group.specs.Sound.{all_characters}
-use Rattle.group.proofs.Accepted.{accepted_parts, passed, terms_kept, starts_settled}
+use Rattle.std.proofs.Common.{refl, rules, arith}
+use Rattle.group.proofs.Accepted.{passed, terms_kept, starts_settled}
 use Rattle.group.proofs.opening.Opening.terms.Goals as goal
 
 pub invariant_of-result : goal.invariant_of-result
 invariant_of-result g c =
-    let R = g.R.FailureRule.meaning c.args.rule.now in
+    let n = c.crew-crew.result in
     let o = c.args.self.now in
-    let starts : all_characters o.characters (take R.crew o.starts) ≡ true =
-    sym (c.if-not-all_characters.ensures ∙ ap (λ (n : ℕ). all_characters o.characters (take n o.starts)) c.crew-crew.ensures) in
-    let none = passed R o c.in_ok-depth.ensures.0 c.in_ok-group.ensures.0 starts (sym c.if-not-may_fail.ensures) in
-    let len : length o.starts ≡ 16 = search rules in
-    record {
-      sound = terms_kept c.crew-crew.result o (subst (λ (n : ℕ). GoodOpening n o) (sym c.crew-crew.ensures) ((accepted_parts R o none).numbers len)) _ _ _ c.own_starts.result
-          c.in_ok-depth.ensures.1.1 c.in_ok-group.ensures.1.0 c.in_ok-group.ensures.1.1 c.own_starts.ensures;
-    }
+    let k = passed (g.R.FailureRule.meaning c.args.rule.now) o n c.crew-crew.ensures c.in_ok-depth.ensures.0 c.in_ok-group.ensures.0 c.if-not-all_characters.ensures c.if-not-may_fail.ensures (search rules) in
+    record { sound = terms_kept n o k.1 _ _ _ _ c.in_ok-depth.ensures.1.1 c.in_ok-group.ensures.1.0 c.in_ok-group.ensures.1.1 c.own_starts.ensures }
 
 pub returns : goal.returns
 returns g c =
-    let R = g.R.FailureRule.meaning c.args.rule.now in
+    let n = c.crew-crew.result in
     let o = c.args.self.now in
-    let starts : all_characters o.characters (take R.crew o.starts) ≡ true =
-    sym (c.if-not-all_characters.ensures ∙ ap (λ (n : ℕ). all_characters o.characters (take n o.starts)) c.crew-crew.ensures) in
-    let none = passed R o c.in_ok-depth.ensures.0 c.in_ok-group.ensures.0 starts (sym c.if-not-may_fail.ensures) in
-    let len : length o.starts ≡ 16 = search rules in
-    let good = (accepted_parts R o none).numbers len in (
-      none,
+    let k = passed (g.R.FailureRule.meaning c.args.rule.now) o n c.crew-crew.ensures c.in_ok-depth.ensures.0 c.in_ok-group.ensures.0 c.if-not-all_characters.ensures c.if-not-may_fail.ensures (search rules) in (
+      k.0,
       record {
         method = refl;
         depth = c.in_ok-depth.ensures.1.0;
@@ -35,6 +22,6 @@ returns g c =
         group = c.in_ok-group.ensures.1.0;
         change = c.in_ok-group.ensures.1.1;
         listed = refl;
-        starts = λ i l. starts_settled R.crew o good c.own_starts.result (c.own_starts.ensures ∙ ap (λ (n : ℕ). table 16 (kept_start n o.starts)) c.crew-crew.ensures) i l;
+        starts = λ i l. starts_settled n o k.1 c.own_starts.result c.own_starts.ensures i (omega (arith, l));
       },
     )

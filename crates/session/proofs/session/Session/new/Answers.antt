@@ -5,7 +5,3 @@ use Rattle.session.proofs.session.Session.new.Goals as goal
 pub invariant_of-result : goal.invariant_of-result
 unfolding stands_after
 invariant_of-result c = record { led = ∣ ([], tt) ∣₁ }
-
-pub returns : goal.returns
-unfolding stands_after
-returns c = tt
