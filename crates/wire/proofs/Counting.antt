@@ -1,11 +1,13 @@
 -- How many words there are, by the ones of their sets, and how many bytes their frames have. Assumes nothing.
-use Rattle.std.proofs.Common.{◌≡◌, ℕ, zero, suc, ◌+◌, ◌-◌, ◌*◌, ◌/◌, ◌%◌, ◌^◌, ◌<◌, ◌≤◌, Bool, true, false, cond, eqb, [], ◌∷◌, length, get_or, take, decimal, sym, refl, ap, ◌∙◌, ap₂, one-mul, zero-mul, add-one, one-add, arith, lit<}
+use Rattle.std.proofs.Common.{◌≡◌, ℕ, zero, suc, ◌+◌, ◌-◌, ◌*◌, ◌/◌, ◌%◌, ◌^◌, ◌<◌, ◌≤◌, Bool, true, false, cond, eqb, ⊎_elim, [], ◌∷◌, length, get_or, take, decimal, sym, refl, ap, ◌∙◌, ap₂, one-mul, zero-mul, add-one, one-add, arith, lit<}
 use lib.Count.{ones, ones_step, ones_cat}
-use Rattle.std.specs.List.{flat_map, sum_by}
+use Rattle.std.specs.List.{flat_map, sum_by, list_all}
 use Rattle.std.proofs.lemmas.List.Sums.{sum_by_push}
-use Rattle.std.proofs.lemmas.Nat.{mod-pow-add, mod_below, pow_pos, ones-le}
+use Rattle.std.proofs.lemmas.List.Folds.{sum_by-zero}
+use mathlib.Core.Path.{fun_ext}
+use Rattle.std.proofs.lemmas.Nat.{mod-pow-add, mod_below, pow_pos, ones-le, zero_from_ones}
 use Rattle.std.proofs.lemmas.List.{length-append, length_push, append-nil, nil_from_length, take_more, take_all}
-use Rattle.std.proofs.lemmas.Bool.{cond-true, cond-false, eq-eqb, ne_eqb}
+use Rattle.std.proofs.lemmas.Bool.{cond-true, cond-false, eq-eqb, ne_eqb, cases_eq}
 use Rattle.wire.specs.declared.posted.Posted.{Posted}
 use Rattle.wire.specs.declared.word.Word.{Word}
 use Rattle.wire.specs.Frames.{frame_of}
@@ -107,6 +109,15 @@ module _ (p : Posted) where
   pub words_summed : length p.kinds ≡ 5 → length (words_of p) ≡ sum_by (λ m. ones (m % 512)) p.kinds
   unfolding words_of
   words_summed five = words_of_first 5 (omega arith) ∙ ap (sum_by (λ m. ones (m % 512))) (take_all 5 p.kinds (omega arith))
+
+-- there is no word where no set has a value
+bare_is : (m : ℕ) → eqb (ones m) 0 ≡ eqb m 0
+bare_is m =
+    ⊎_elim (λ (q : m ≡ 0). rw (q, ones_bit 0 (lit< tt))) (λ (q : m ≡ 0 → ⊥). ne_eqb (ones m) 0 (λ z. q (zero_from_ones m z)) ∙ sym (ne_eqb m 0 q)) (cases_eq m 0)
+
+pub none_posted_is : (p : Posted) → length p.kinds ≡ 5 → list_all (λ m. eqb (m % 512) 0) p.kinds ≡ eqb (length (words_of p)) 0
+none_posted_is p five =
+    ap (λ (t : ℕ → Bool). list_all t p.kinds) (fun_ext (λ m. sym (bare_is (m % 512)))) ∙ sym (sum_by-zero (λ m. ones (m % 512)) p.kinds) ∙ ap (λ (n : ℕ). eqb n 0) (sym (words_summed p five))
 
 pub ones_of_nine : (m : ℕ) → ones (m % 512) ≤ 9
 ones_of_nine m = ones-le 9 (m % 512) (mod_below m 512 (lit< tt))

@@ -1,5 +1,5 @@
 // The frames of the words that a board has posted, put one after the other.
-ghost use Rattle.std.specs.Prelude.{◌≡◌, ◌≤◌, length};
+ghost use Rattle.std.specs.Prelude.{◌≡◌, ◌≤◌, ◌==◌, length};
 ghost use Rattle.std.specs.List.{flat_map};
 ghost use Rattle.wire.specs.Frames.{frame_of};
 ghost use Rattle.wire.specs.Limits.{IsKind};
@@ -51,6 +51,13 @@ impl Posted {
             len += self.put_kind(kind, &mut buf[len..]);
         }
         len
+    }
+
+    // Whether no word is posted.
+    pub(crate) fn is_empty(&self) -> bool
+        ensures { result ≡ (length (words_of self.now) == 0) }
+    {
+        self.kinds.iter().all(|values| values % VALUE_SETS == 0)
     }
 
     // How many words are posted.

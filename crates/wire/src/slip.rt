@@ -1,5 +1,5 @@
 // A slip: the words that a board has just posted, to be written out before the slip is let go.
-ghost use Rattle.std.specs.Prelude.{◌≡◌, ℕ, ◌*◌, ◌≤◌, true, [], length, is_ok, IfOk, IfErr, if◌then◌else◌, Ok, OnOk, slice_index};
+ghost use Rattle.std.specs.Prelude.{◌≡◌, ℕ, ◌*◌, ◌≤◌, ◌==◌, true, [], length, is_ok, IfOk, IfErr, if◌then◌else◌, Ok, OnOk, slice_index};
 ghost use Rattle.wire.specs.Slips.{words_of, word_of, frames_of, addressed, slip_made, with_word, OneMore, ReadsBack, emptied, mapped, mapped_both};
 ghost use Rattle.wire.specs.Writes.{range_fault, unless, fitting, buffer_after};
 
@@ -38,6 +38,13 @@ impl Slip {
     {
         check_ranges(posted.word(1, 0))?;
         Ok(Slip { posted })
+    }
+
+    // Whether there is no word on the slip.
+    pub fn is_empty(&self) -> bool
+        ensures { result ≡ (length (words_of self.now.posted) == 0) }
+    {
+        self.posted.is_empty()
     }
 
     // How many words are on the slip.
