@@ -1,5 +1,6 @@
 pub mod Starts
 pub mod Quiet
+mod Unmoved
 pub mod Memory
 pub mod Fields
 pub mod Step

@@ -5,67 +5,61 @@ use Rattle.std.proofs.Math.Bool.{and-not_self}
 use lib.Bits.{bit_or, bit_and}
 use Rattle.std.specs.Int.Bits.{or_zero_r}
 use Rattle.std.proofs.lemmas.Bool.{eq-eqb, ne_eqb, cases_eq}
-use Rattle.quorum.specs.Rules.{Rule}
+use Rattle.quorum.specs.Rules.{Rule, Lawful}
 use Rattle.quorum.proofs.Masks.{set_of_ext, set_of_or, set_of_minus}
 use Rattle.vote.specs.declared.Decision.{Decision}
 use Rattle.vote.specs.declared.Depth.{Depth}
 use Rattle.vote.specs.declared.Depth.TheVariants.{One, Two}
 use Rattle.vote.specs.declared.Vote.{Vote}
-use Rattle.vote.specs.History.{Seen, seen, memo, ever}
+use Rattle.vote.specs.History.{Seen, seen, ever}
 use Rattle.vote.specs.Search.{or_else}
 use Rattle.vote.specs.Setting.{Setting}
 use Rattle.vote.proofs.Options.{else_none}
 use Rattle.vote.proofs.Seeking.{set_of_none}
-use Rattle.agreement.specs.Echo.{decides, second, third, outcome, fifth, echoes, found, verdict, said, echoed, decided, posts, echo}
+use Rattle.agreement.specs.Echo.{approved, decides, second, third, outcome, fifth, echoes, found, verdict, said, echoed, decided, posts, echo}
 use Rattle.vote.specs.News.{values, news_of}
 use Rattle.heard.specs.Shown.{heard_of, setting}
 use Rattle.echo_board.specs.declared.board.EchoRecord.{EchoRecord}
 use Rattle.echo_board.specs.declared.findings.Findings.{Findings}
 use Rattle.echo_board.specs.Records.{held_of, record_of}
 use Rattle.echo_board.proofs.Quiet.{echoed_same}
-use Rattle.echo_board.specs.Steps.{completing, findings_of, remembering, fresh, news_in}
+use Rattle.echo_board.proofs.Unmoved.{remembered, second_due, third_due, fourth_due, fifth_due, decision_due}
+use Rattle.echo_board.specs.Steps.{approves, decides_by, completing, findings_of, remembering, fresh, news_in}
 
--- ---- what the record holds of the tests, and otherwise what they find, at either depth
-pub else_made : {A P : Type 0} (s : Option A) {r : Option A} (t : Option A) → MatchOption s P (λ y. r ≡ Some y) → (P → r ≡ t) → r ≡ or_else s t
-else_made None t m f = f m
-else_made (Some y) t m f = m
+-- ---- what the record holds of the tests, and otherwise what those find that are due, at either depth
+pub else_made : {A P : Type 0} (s : Option A) {r : Option A} (b : Bool) {d : Bool} (t : Option A) → MatchOption s (cond b P (r ≡ None)) (λ y. r ≡ Some y) → (P → r ≡ t) → b ≡ d → r ≡ or_else s (cond d t None)
+else_made None true t m f e = f m ∙ ap (λ (d : Bool). cond d t None) e
+else_made None false t m f e = m ∙ ap (λ (d : Bool). cond d t None) e
+else_made (Some y) b t m f e = m
 
 findings_ext : {a a' : ℕ} {b b' c c' d d' e e' : Option ℕ} {f f' : Option Decision} → a ≡ a' → b ≡ b' → c ≡ c' → d ≡ d' → e ≡ e' → f ≡ f'
     → ◌≡◌ {A = Findings} record { echoes = a; second = b; third = c; fourth = d; fifth = e; decision = f } record { echoes = a'; second = b'; third = c'; fourth = d'; fifth = e'; decision = f' }
 findings_ext p q r s t u = rw (p, q, r, s, t, u)
 
-module _ (R : Rule) (k : ℕ) (x : Seen) (o : Findings) (d : Depth) (kind : ℕ) {a : ℕ} {b c : Option ℕ} {v : Option Decision} where
-  pub found_one : d ≡ One → a ≡ cond (eqb kind 1) (values (λ v. leb v k && echoes (setting R k One) v x)) 0 → b ≡ or_else o.second (second (setting R k One) x) → c ≡ or_else o.third (third (setting R k One) x)
-      → v ≡ or_else o.decision (decides 1 (outcome (setting R k One) x))
-      → ◌≡◌ {A = Findings} record { echoes = a; second = b; third = c; fourth = o.fourth; fifth = o.fifth; decision = v } (completing kind o (findings_of (setting R k d) x))
-  unfolding findings_of found verdict
-  found_one q p1 p2 p3 p4 =
-      subst (λ (z : Depth). ◌≡◌ {A = Findings} record { echoes = a; second = b; third = c; fourth = o.fourth; fifth = o.fifth; decision = v } (completing kind o (findings_of (setting R k z) x))) (sym q)
-      (findings_ext p1 p2 p3 (else_none o.fourth) (else_none o.fifth) p4)
+none_due : (o : Option ℕ) (b : Bool) → o ≡ or_else o (cond b None None)
+none_due o true = else_none o
+none_due o false = else_none o
 
-  pub found_two : {e f : Option ℕ} → d ≡ Two → a ≡ cond (eqb kind 1) (values (λ v. leb v k && echoes (setting R k Two) v x)) 0 → b ≡ or_else o.second (second (setting R k Two) x) → c ≡ or_else o.third (third (setting R k Two) x)
-      → e ≡ or_else o.fourth (outcome (setting R k Two) x) → f ≡ or_else o.fifth (fifth (setting R k Two) x) → v ≡ or_else o.decision (verdict (setting R k Two) Two x)
-      → ◌≡◌ {A = Findings} record { echoes = a; second = b; third = c; fourth = e; fifth = f; decision = v } (completing kind o (findings_of (setting R k d) x))
-  unfolding findings_of found
-  found_two {e} {f} q p1 p2 p3 p4 p5 p6 =
-      subst (λ (z : Depth). ◌≡◌ {A = Findings} record { echoes = a; second = b; third = c; fourth = e; fifth = f; decision = v } (completing kind o (findings_of (setting R k z) x))) (sym q)
+module _ (R : Rule) (k : ℕ) (x : Seen) (o : Findings) (d : Depth) (w : Vote) where
+  abbrev A : Bool
+  A = approves (setting R k d) w x
+
+  pub found_one : {a : ℕ} {b c : Option ℕ} {v : Option Decision} → d ≡ One → a ≡ cond (eqb w.kind 1) (values (λ v. leb v k && echoes (setting R k One) v x)) 0 → b ≡ or_else o.second (cond A (second (setting R k One) x) None)
+      → c ≡ or_else o.third (cond (A || eqb w.kind 2) (third (setting R k One) x) None) → v ≡ or_else o.decision (cond (A || eqb w.kind 3) (decides 1 (outcome (setting R k One) x)) None)
+      → ◌≡◌ {A = Findings} record { echoes = a; second = b; third = c; fourth = o.fourth; fifth = o.fifth; decision = v } (completing (setting R k d) w x o (findings_of (setting R k d) x))
+  unfolding findings_of found verdict approved
+  found_one {a} {b} {c} {v} q p1 p2 p3 p4 =
+      subst (λ (z : Depth). ◌≡◌ {A = Findings} record { echoes = a; second = b; third = c; fourth = o.fourth; fifth = o.fifth; decision = v } (completing (setting R k z) w x o (findings_of (setting R k z) x))) (sym q)
+      (findings_ext p1 p2 p3 (none_due o.fourth (A || eqb w.kind 3)) (none_due o.fifth (A || eqb w.kind 4)) p4)
+
+  pub found_two : {a : ℕ} {b c e f : Option ℕ} {v : Option Decision} → d ≡ Two → a ≡ cond (eqb w.kind 1) (values (λ v. leb v k && echoes (setting R k Two) v x)) 0 → b ≡ or_else o.second (cond A (second (setting R k Two) x) None)
+      → c ≡ or_else o.third (cond (A || eqb w.kind 2) (third (setting R k Two) x) None) → e ≡ or_else o.fourth (cond (A || eqb w.kind 3) (outcome (setting R k Two) x) None)
+      → f ≡ or_else o.fifth (cond (A || eqb w.kind 4) (fifth (setting R k Two) x) None) → v ≡ or_else o.decision (cond (A || (eqb w.kind 4 || eqb w.kind 5)) (verdict (setting R k Two) Two x) None)
+      → ◌≡◌ {A = Findings} record { echoes = a; second = b; third = c; fourth = e; fifth = f; decision = v } (completing (setting R k d) w x o (findings_of (setting R k d) x))
+  unfolding findings_of found approved
+  found_two {a} {b} {c} {e} {f} {v} q p1 p2 p3 p4 p5 p6 =
+      subst (λ (z : Depth). ◌≡◌ {A = Findings} record { echoes = a; second = b; third = c; fourth = e; fifth = f; decision = v } (completing (setting R k z) w x o (findings_of (setting R k z) x))) (sym q)
       (findings_ext p1 p2 p3 p4 p5 p6)
-
--- ---- what was held already makes no difference to what is remembered and told
-else_again : {A : Type 0} (o x : Option A) → or_else o (or_else o x) ≡ or_else o x
-else_again None x = refl
-else_again (Some a) x = refl
-
-abbrev with_echoes : ℕ → Findings → Findings
-with_echoes n f = record { echoes = n; second = f.second; third = f.third; fourth = f.fourth; fifth = f.fifth; decision = f.decision }
-
-module _ (c : ℕ) (o : Findings) (f : Findings) where
-  completing_remembers : remembering o (completing c o f) ≡ remembering o (with_echoes (cond (eqb c 1) f.echoes 0) f)
-  completing_remembers = rw (else_again o.second f.second, else_again o.third f.third, else_again o.fourth f.fourth, else_again o.fifth f.fifth, else_again o.decision f.decision)
-
-  completing_tells : news_in o (completing c o f) ≡ news_in o (with_echoes (cond (eqb c 1) f.echoes 0) f)
-  unfolding fresh
-  completing_tells = rw (else_again o.second f.second, else_again o.third f.third, else_again o.fourth f.fourth, else_again o.fifth f.fifth)
 
 -- ---- the echoes posted: before, or now
 keeps : (a l e t : Bool) → ((a || (l && e)) || (l && t)) ≡ (a || (l && (e || t)))
@@ -111,23 +105,41 @@ module _ (S : Setting) (nobody : S.rule.fails 0 ≡ true) (s : ℕ) (h : List Vo
       (λ (q : w.kind ≡ 1 → ⊥). rw (ne_eqb w.kind 1 q) (sym (set_of_ext 9 _ (λ v. false) (λ v l. rw (echoed_same S nobody h w q s v) (and-not_self (echoed S s h v))) ∙ set_of_none 9)))
       (cases_eq w.kind 1)
 
-  -- ---- the step
-  remembering_is : remembering (held_of S s h) (with_echoes due (findings_of S (seen (w ∷ h)))) ≡ held_of S s (w ∷ h)
-  unfolding findings_of said decided memo echoes_now
-  remembering_is = rw due_kept
+  -- ---- the step: what is remembered of the tests is what a history with w remembers
+  module _ (lawful : Lawful S.rule) (o f : Findings) (p : o ≡ held_of S s h) (q : f ≡ completing S w (seen (w ∷ h)) o (findings_of S (seen (w ∷ h)))) where
+    abbrev B : Bool
+    B = approves S w (seen (w ∷ h))
 
-  news_is : news_in (held_of S s h) (with_echoes due (findings_of S (seen (w ∷ h)))) ≡ news_of (echo S) s h w
-  unfolding findings_of news_of fresh posts said memo echoes_now
-  news_is = rw due_new
+    second_kept : or_else o.second f.second ≡ said S (w ∷ h) 2
+    unfolding findings_of said
+    second_kept = rw (q, p) (remembered h w (found S S.depth 2) B (second_due S lawful h w S.depth))
 
-  module _ (o f : Findings) (p : o ≡ held_of S s h) (q : f ≡ completing w.kind o (findings_of S (seen (w ∷ h)))) where
-    pub remembers : remembering o f ≡ held_of S s (w ∷ h)
+    third_kept : or_else o.third f.third ≡ said S (w ∷ h) 3
+    unfolding findings_of said
+    third_kept = rw (q, p) (remembered h w (found S S.depth 3) (B || eqb w.kind 2) (third_due S lawful h w S.depth))
+
+    fourth_kept : or_else o.fourth f.fourth ≡ said S (w ∷ h) 4
+    unfolding findings_of said
+    fourth_kept = rw (q, p) (remembered h w (found S S.depth 4) (B || eqb w.kind 3) (fourth_due S lawful h w S.depth))
+
+    fifth_kept : or_else o.fifth f.fifth ≡ said S (w ∷ h) 5
+    unfolding findings_of said
+    fifth_kept = rw (q, p) (remembered h w (found S S.depth 5) (B || eqb w.kind 4) (fifth_due S lawful h w S.depth))
+
+    decision_kept : or_else o.decision f.decision ≡ decided S (w ∷ h)
+    unfolding findings_of decided
+    decision_kept = rw (q, p) (remembered h w (verdict S S.depth) (B || decides_by S.depth w.kind) (decision_due S lawful h w S.depth))
+
+    echoes_due : f.echoes ≡ due
     unfolding findings_of echoes_now
-    remembers = rw q (completing_remembers w.kind o (findings_of S (seen (w ∷ h))) ∙ rw p remembering_is)
+    echoes_due = ap (λ (z : Findings). z.echoes) q
+
+    pub remembers : remembering o f ≡ held_of S s (w ∷ h)
+    remembers = rw (echoes_due, second_kept, third_kept, fourth_kept, fifth_kept, decision_kept, p, due_kept)
 
     pub tells : news_in o f ≡ news_of (echo S) s h w
-    unfolding findings_of echoes_now
-    tells = rw q (completing_tells w.kind o (findings_of S (seen (w ∷ h))) ∙ rw p news_is)
+    unfolding news_of fresh posts
+    tells = rw (echoes_due, second_kept, third_kept, fourth_kept, fifth_kept, p, due_new)
 
 module _ (S : Setting) (s : ℕ) (h : List Vote) (o : EchoRecord) (e : o ≡ record_of S s h) where
   pub heard_in : o.heard ≡ heard_of S.rule.crew (seen h)

@@ -50,7 +50,7 @@ impl EchoRecord {
         }
     }
 
-    // Counts the vote, unless it is counted already (None), makes the tests that have no answer yet, those of the echoes after an echo alone, and says what is newly
+    // Counts the vote, unless it is counted already (None), makes the tests that have no answer yet and look at what the vote has changed, and says what is newly
     // posted. The other tests go on after the decision.
     pub fn count<R: FailureRule>(&mut self, voting: &Voting<R>, vote: Vote) -> Option<News>
         requires crew { (R.meaning voting.now.rule.now).crew ≤ max_crew }
@@ -64,7 +64,7 @@ impl EchoRecord {
             return None;
         }
         self.heard.note(vote);
-        let found = self.held.find(&self.heard, voting, vote.kind);
+        let found = self.held.find(&self.heard, voting, vote);
         Some(self.held.remember(found))
     }
 }

@@ -1,13 +1,14 @@
 // What is held of the seven tests, and what those without an answer find now.
-ghost use Rattle.std.specs.Prelude.{◌≡◌, Some, MatchOption};
-ghost use Rattle.echo_board.specs.Steps.{completing, findings_of, remembering, news_in};
+ghost use Rattle.std.specs.Prelude.{◌≡◌, ◌≤◌, ◌||◌, ◌==◌, cond, None, Some, MatchOption};
+ghost use Rattle.echo_board.specs.Steps.{approves as may_approve, completing, findings_of, remembering, news_in};
+ghost use Rattle.heard.specs.Limits.{max_characters};
 ghost use Rattle.heard.specs.Shown.{heard_of, setting_in};
 ghost use Rattle.vote.specs.History.{Seen};
 
 use crate::news::fresh;
 use heard::{Heard, decision};
 use quorum::{FailureRule, without};
-use vote::{Decision, Depth, ECHO, News, Voting};
+use vote::{Decision, Depth, ECHO, News, Vote, Voting};
 
 // The values to echo, as a set, the values of the kinds 2 to 5, and the decision. The values stay four fields: each is the answer of another
 // test, and an array by kind would put numbers in the place of their names.
@@ -21,36 +22,62 @@ pub(crate) struct Findings {
     pub(crate) decision: Option<Decision>,
 }
 
-// What is held, or else what is found: where something is held, the test is not made, which saves its time. Tried with `or_else`, with a clause on the closure too: it
+// What is held, or else what is found, where the test is due: else it is not made, which saves its time. Tried with `or_else`, with a clause on the closure too: it
 // takes an FnOnce, and of a test under a rule its contract then told nothing.
-fn held_or<T, F: Fn() -> Option<T>>(held: Option<T>, find: F) -> Option<T>
+fn held_or<T, F: Fn() -> Option<T>>(held: Option<T>, due: bool, find: F) -> Option<T>
     requires { F.pre find }
-    ensures { MatchOption held (F.post find result) (λ x. result ≡ Some x) }
+    ensures { MatchOption held (cond due (F.post find result) (result ≡ None)) (λ x. result ≡ Some x) }
 {
     match held {
-        None => find(),
+        None if due => find(),
         held => held,
     }
 }
 
+// Whether a test of the votes of this kind is due: the vote is one of them, or with it a value may have become approved.
+fn is_due(approves: bool, vote: Vote, kind: u8) -> bool
+    ensures { result ≡ (approves || vote.kind == kind) }
+{
+    approves || vote.kind == kind
+}
+
+// Whether the test 7 is due, which looks at votes of two kinds.
+fn is_weighed(approves: bool, vote: Vote) -> bool
+    ensures { result ≡ (approves || (vote.kind == 4 || vote.kind == 5)) }
+{
+    is_due(approves, vote, 4) || vote.kind == 5
+}
+
+// Whether a value may have become approved with the vote, which is counted.
+fn approves<R: FailureRule>(heard: &Heard, voting: &Voting<R>, vote: Vote) -> bool
+    requires { vote.value ≤ max_characters }
+    ensures { (x : Seen) → heard.now ≡ heard_of (R.meaning voting.now.rule.now).crew x → result ≡ may_approve (setting_in voting.now) vote x }
+{
+    voting.rule.cover() == 0 || vote.kind == ECHO && heard.approved(voting, vote.value)
+}
+
 impl Findings {
-    // Makes the tests of which there is no answer yet, once a vote of the kind is counted: only an echo can make an echo due.
-    // At depth 1 the outcome decides, and there are no kinds 4 and 5. The kind is a number, as in a Vote.
+    // Makes the tests of which there is no answer yet and that look at something that the vote, which is counted, has changed.
+    // At depth 1 the outcome decides, and there are no kinds 4 and 5.
     pub(crate) fn find<R: FailureRule>(
         &self,
         heard: &Heard,
         voting: &Voting<R>,
-        kind: u8,
+        vote: Vote,
     ) -> Findings
-        ensures { (x : Seen) → heard.now ≡ heard_of (R.meaning voting.now.rule.now).crew x → result ≡ completing kind self.now (findings_of (setting_in voting.now) x) }
+        requires { vote.value ≤ max_characters }
+        ensures { (x : Seen) → heard.now ≡ heard_of (R.meaning voting.now.rule.now).crew x → result ≡ completing (setting_in voting.now) vote x self.now (findings_of (setting_in voting.now) x) }
     {
-        let echoes = if kind == ECHO {
+        let approves = approves(heard, voting, vote);
+        let echoes = if vote.kind == ECHO {
             heard.echoes(voting)
         } else {
             0
         };
-        let second = held_or(self.second, || heard.second(voting));
-        let third = held_or(self.third, || heard.third(voting));
+        let second = held_or(self.second, approves, || heard.second(voting));
+        let third = held_or(self.third, is_due(approves, vote, 2), || {
+            heard.third(voting)
+        });
         match voting.depth {
             Depth::One => Findings {
                 echoes,
@@ -58,15 +85,23 @@ impl Findings {
                 third,
                 fourth: self.fourth,
                 fifth: self.fifth,
-                decision: held_or(self.decision, || decision(1, heard.outcome(voting))),
+                decision: held_or(self.decision, is_due(approves, vote, 3), || {
+                    decision(1, heard.outcome(voting))
+                }),
             },
             Depth::Two => Findings {
                 echoes,
                 second,
                 third,
-                fourth: held_or(self.fourth, || heard.outcome(voting)),
-                fifth: held_or(self.fifth, || heard.fifth(voting)),
-                decision: held_or(self.decision, || heard.verdict(voting)),
+                fourth: held_or(self.fourth, is_due(approves, vote, 3), || {
+                    heard.outcome(voting)
+                }),
+                fifth: held_or(self.fifth, is_due(approves, vote, 4), || {
+                    heard.fifth(voting)
+                }),
+                decision: held_or(self.decision, is_weighed(approves, vote), || {
+                    heard.verdict(voting)
+                }),
             },
         }
     }

@@ -26,6 +26,10 @@ module _ {B : Type 0} {m : Ghosts B} (V : Voting B m) where
   k = V.characters
 
   module _ (o : Heard) (d : Depth) (x : Seen) (e : o ≡ heard_of R.crew x) where
+    pub approved_made : (v : ℕ) → v ≤ 8 → {r : Bool} → r ≡ ample R (get_or o.echoes v 0) → r ≡ approved (setting R k d) x v
+    unfolding approved
+    approved_made v h p = p ∙ ample_echo V o x e v h
+
     pub second_made : {r : Option ℕ} → r ≡ seek (suc k) (ample_from R o.echoes 0) → r ≡ second (setting R k d) x
     unfolding second lowest approved
     second_made p = p ∙ lowest_approved V o x e

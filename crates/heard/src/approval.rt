@@ -1,7 +1,8 @@
 // Which values are approved: those with ample echo senders.
-ghost use Rattle.std.specs.Prelude.{◌&&◌};
+ghost use Rattle.std.specs.Prelude.{◌≤◌, ◌&&◌};
+ghost use Rattle.heard.specs.Limits.{max_characters};
 ghost use Rattle.heard.specs.Shown.{Makes};
-ghost use Rattle.agreement.specs.Echo.{two_approved, mixed as is_mixed};
+ghost use Rattle.agreement.specs.Echo.{approved, two_approved, mixed as is_mixed};
 ghost use Rattle.quorum.specs.Rules.{ample as is_ample};
 
 use crate::counted::Heard;
@@ -10,6 +11,15 @@ use quorum::{FailureRule, ample};
 use vote::Voting;
 
 impl Heard {
+    // Whether the value is approved.
+    #[tactic(auto, using(crate::proofs::Tested::approved_made))]
+    pub fn approved<R: FailureRule>(&self, voting: &Voting<R>, value: u8) -> bool
+        requires { value ≤ max_characters }
+        ensures { Makes voting.now (λ S x. approved S x value) self.now result }
+    {
+        ample(voting.rule, self.echoes[value as usize])
+    }
+
     // Whether two values are approved.
     #[tactic(auto, using(vote::proofs::Seeking::seek_found, crate::proofs::Tested::two_made_none))]
     pub(crate) fn two_approved<R: FailureRule>(&self, voting: &Voting<R>) -> bool
