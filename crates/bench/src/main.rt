@@ -30,12 +30,14 @@ fn play(
     begun: &mut Gathered,
     bytes: &[u8],
 ) -> io::Result<()> {
+    // one place for all answers, for speed: a new one for each takes 80 instructions more
+    let mut answer = Gathered::new();
     for part in bytes.split_inclusive(|b| *b == b'\n') {
         let line = continued(begun, part);
         if part.ends_with(b"\n") {
-            let reply = session.play(line);
-            *begun = Gathered::new();
-            writeln!(out, "{reply}")?;
+            session.play(line).put_line(&mut answer);
+            begun.clear();
+            out.write_all(answer.line())?;
         }
     }
     Ok(())

@@ -3,3 +3,4 @@ pub mod Openings
 pub mod Cutting
 pub mod Calling
 pub mod Lining
+pub mod Telling

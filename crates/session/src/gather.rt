@@ -1,15 +1,16 @@
 // The bytes of a line as they come in, with room for one more than a line can have, which is enough to see that a longer one cannot be read.
-ghost use Rattle.std.specs.Prelude.{◌≡◌, [], ◌∷◌, ◌++◌, ◌==◌, take};
+ghost use Rattle.std.specs.Prelude.{◌≡◌, [], ◌∷◌, ◌++◌, ◌==◌, ◌≤◌, length, take, decimal};
 ghost use Rattle.fixed.specs.Items.{items_of};
 ghost use Rattle.session.specs.Gathering.{ReadsTheSame};
 
 use fixed::Fixed;
+use itoa::Buffer;
 
 pub const ROOM: usize = 122;
 
 #[derive(Clone, Copy)]
 pub struct Gathered {
-    bytes: Fixed<u8, ROOM>,
+    pub(crate) bytes: Fixed<u8, ROOM>,
 }
 
 impl Gathered {
@@ -21,6 +22,13 @@ impl Gathered {
         }
     }
 
+    // Nothing is gathered, whatever was.
+    pub fn clear(&mut self)
+        ensures { items_of self.new.bytes ≡ [] }
+    {
+        self.bytes = Fixed::new(0);
+    }
+
     // One byte more; whether it ends the line.
     pub fn add(&mut self, byte: u8) -> bool
         ensures ends { result ≡ (byte == 10) }
@@ -29,6 +37,29 @@ impl Gathered {
         // A byte that finds no room is dropped.
         let _ = self.bytes.push(byte);
         byte == b'\n'
+    }
+
+    // The bytes, one after the other.
+    pub(crate) fn add_all(&mut self, bytes: &[u8])
+        ensures { items_of self.new.bytes ≡ take 122 (items_of self.old.bytes ++ bytes.now) }
+    {
+        for byte in bytes {
+            self.add(*byte);
+        }
+    }
+
+    // The number as it is written in base ten.
+    #[tactic(auto, using(std::proofs::lemmas::Fmt::decimal_digit, crate::proofs::Telling::digits_fit))]
+    pub(crate) fn add_number(&mut self, number: usize)
+        ensures gathers { items_of self.new.bytes ≡ take 122 (items_of self.old.bytes ++ decimal number) }
+        ensures digits { length (decimal number) ≤ 20 }
+    {
+        // nearly all numbers are of one digit, and this way takes some 40 instructions less for each
+        if number < 10 {
+            self.add(b'0' + number as u8);
+        } else {
+            self.add_all(Buffer::new().format(number).as_bytes());
+        }
     }
 
     // The line, or the front of a longer one.

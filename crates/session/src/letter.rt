@@ -1,5 +1,5 @@
 // The letter by which an answer tells its line.
-ghost use Rattle.std.specs.Prelude.{◌≡◌, ℕ, List, Some};
+ghost use Rattle.std.specs.Prelude.{◌≡◌, ℕ, List, [], ◌∷◌, Some};
 ghost use Rattle.lines.specs.Told.{failing_by};
 ghost use Rattle.session.specs.Letters.{opening_letter, letter_text};
 
@@ -30,17 +30,25 @@ impl From<By> for Letter {
     }
 }
 
+impl From<Letter> for u8 {
+    ghost from_gives = { λ l r. letter_text l ≡ r ∷ [] };
+
+    fn from(letter: Letter) -> u8 {
+        match letter {
+            Letter::Unreadable => b'?',
+            Letter::OpenByCount => b'o',
+            Letter::OpenBySets => b'g',
+            Letter::Start => b's',
+            Letter::Carry => b'c',
+            Letter::Forge => b'f',
+        }
+    }
+}
+
 impl fmt::Display for Letter {
     ghost output = { λ l. Some (letter_text l) };
 
     fn fmt<W: fmt::Write>(&self, f: &mut fmt::Formatter<W>) -> fmt::Result {
-        match *self {
-            Letter::Unreadable => write!(f, "?"),
-            Letter::OpenByCount => write!(f, "o"),
-            Letter::OpenBySets => write!(f, "g"),
-            Letter::Start => write!(f, "s"),
-            Letter::Carry => write!(f, "c"),
-            Letter::Forge => write!(f, "f"),
-        }
+        f.write_char(char::from(u8::from(*self)))
     }
 }

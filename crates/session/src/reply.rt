@@ -1,8 +1,11 @@
 // What a line is answered, and how the answer is written.
-ghost use Rattle.std.specs.Prelude.{Some};
+ghost use Rattle.std.specs.Prelude.{◌≡◌, ◌<◌, [], ◌∷◌, ◌++◌, length, Some};
+ghost use Rattle.fixed.specs.Items.{items_of};
+ghost use Rattle.lines.specs.Lines.{line_feed};
 ghost use Rattle.session.specs.Texts.{reply_text};
 
 use crate::fault::SessionFault;
+use crate::gather::Gathered;
 use crate::letter::Letter;
 use refusal::Refusal;
 use std::fmt;
@@ -21,28 +24,52 @@ pub struct Reply {
     pub answer: Result<Played, SessionFault>,
 }
 
+impl Reply {
+    // Puts the answer, as its line tells it, in the place of what was gathered, without the line feed.
+    fn put_text(&self, text: &mut Gathered)
+        ensures value { items_of text.new.bytes ≡ reply_text self.now }
+        ensures short { length (items_of text.new.bytes) < 122 }
+    {
+        text.clear();
+        text.add(u8::from(self.letter));
+        match self.answer {
+            Err(fault) => {
+                text.add(b',');
+                text.add_number(usize::from(Refusal::from(fault).number));
+                text.add_all(b",0,-,-");
+            }
+            Ok(played) => {
+                text.add_all(b",0,");
+                text.add_number(played.words);
+                match played.decision {
+                    None => text.add_all(b",-,-"),
+                    Some(decision) => {
+                        text.add(b',');
+                        text.add_number(usize::from(decision.value));
+                        text.add(b',');
+                        text.add_number(usize::from(decision.grade));
+                    }
+                }
+            }
+        }
+    }
+
+    // Puts the line that answers, with its line feed, in the place of what was gathered.
+    pub fn put_line(&self, line: &mut Gathered)
+        ensures { items_of line.new.bytes ≡ reply_text self.now ++ line_feed ∷ [] }
+    {
+        self.put_text(line);
+        line.add(b'\n');
+    }
+}
+
 impl fmt::Display for Reply {
     ghost output = { λ r. Some (reply_text r) };
 
     fn fmt<W: fmt::Write>(&self, f: &mut fmt::Formatter<W>) -> fmt::Result {
-        let letter = self.letter;
-        match self.answer {
-            Err(fault) => {
-                let Refusal { number, .. } = Refusal::from(fault);
-                write!(f, "{letter},{number},0,-,-")
-            }
-            Ok(
-                Played {
-                    words,
-                    decision: None,
-                },
-            ) => write!(f, "{letter},0,{words},-,-"),
-            Ok(
-                Played {
-                    words,
-                    decision: Some(Decision { value, grade }),
-                },
-            ) => write!(f, "{letter},0,{words},{value},{grade}"),
-        }
+        let mut text = Gathered::new();
+        self.put_text(&mut text);
+        let text = str::from_utf8(text.line()).map_err(|_| fmt::Error)?;
+        f.write_str(text)
     }
 }
