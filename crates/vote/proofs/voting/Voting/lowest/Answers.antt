@@ -1,6 +1,6 @@
 -- The first that passes is the least. Assumes nothing.
 use Rattle.std.proofs.Common.{◌≡◌, ◌≤◌, true, false, rules, tests}
-use Rattle.std.proofs.lemmas.Iterator.{first_from_Range, serves_from_Range}
+use Rattle.std.proofs.lemmas.Iterator.{first_from_Range}
 use Rattle.vote.proofs.Seeking.{seek_first}
 use Rattle.vote.proofs.voting.Voting.lowest.Goals as goal
 
