@@ -2,6 +2,7 @@
 ghost use Rattle.std.specs.Prelude.{◌≡◌, ℕ, ◌<◌, ◌≤◌};
 ghost use Rattle.board.specs.Shown.{Counts};
 ghost use Rattle.board.specs.Taking.{kinds_used};
+ghost use Rattle.vote.specs.Limits.{KindUpTo};
 
 use crate::fit::Fitting;
 use crate::record::Record;
@@ -17,7 +18,7 @@ impl Fitting {
         vote: Vote,
     ) -> Option<News>
         requires rule { ((R.meaning rule.now).crew ≤ 16) × (1 ≤ (R.meaning rule.now).cover) }
-        requires vote { (vote.sender < (R.meaning rule.now).crew) × ((1 ≤ vote.kind) × ((vote.kind ≤ kinds_used self.now.fit.method self.now.fit.depth) × (vote.value ≤ self.now.fit.characters))) }
+        requires vote { (vote.sender < (R.meaning rule.now).crew) × KindUpTo (kinds_used self.now.fit.method self.now.fit.depth) vote.kind × (vote.value ≤ self.now.fit.characters) }
         ensures { Counts (R.meaning rule.now) self.now.fit vote state.old state.new result }
     {
         let voting = Voting {

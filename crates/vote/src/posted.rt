@@ -12,6 +12,7 @@ impl News {
         News { kinds: [0; KINDS] }
     }
 
+    // The kind is a number, as in a Vote.
     pub fn one(kind: u8, value: u8) -> News
         requires kind { KindUpTo max_kind kind }
         requires value { value ≤ max_characters }
