@@ -60,6 +60,13 @@ impl<T: Copy, const N: usize> Fixed<T, N> {
         &self.places[..self.many]
     }
 
+    // No items, whatever there were.
+    pub fn clear(&mut self)
+        ensures { items_of self.new ≡ [] }
+    {
+        self.many = 0;
+    }
+
     // One item more at the end, or the item given back where every place is taken.
     pub fn push(&mut self, item: T) -> Result<(), T>
         ensures { MatchResult result (λ done. (length (items_of self.old) < N) × (items_of self.new ≡ items_of self.old ++ item ∷ [])) (λ back. (length (items_of self.old) ≡ N) × (back ≡ item) × (self.new ≡ self.old)) }

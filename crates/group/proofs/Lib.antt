@@ -14,3 +14,4 @@ pub mod Accepted
 pub mod Promised
 pub mod Decided
 pub mod Called
+mod Quiet

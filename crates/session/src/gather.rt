@@ -26,7 +26,7 @@ impl Gathered {
     pub fn clear(&mut self)
         ensures { items_of self.new.bytes ≡ [] }
     {
-        self.bytes = Fixed::new(0);
+        self.bytes.clear();
     }
 
     // One byte more; whether it ends the line.
