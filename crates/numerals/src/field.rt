@@ -16,6 +16,12 @@ fn first_comma(bytes: &[u8]) -> Option<usize>
 pub fn read_field(bytes: &[u8]) -> Option<(u16, &[u8])>
     ensures { option_map (λ f. (f.0, f.1.now)) result ≡ field_in bytes.now }
 {
+    // nearly all numbers of a line are one digit, and this way takes some 60 instructions less for each line of `bench`
+    if let [digit, b',', rest @ ..] = bytes {
+        if digit.is_ascii_digit() {
+            return Some((u16::from(digit - b'0'), rest));
+        }
+    }
     let comma = first_comma(bytes)?;
     Some((number(&bytes[..comma])?, &bytes[comma + 1..]))
 }

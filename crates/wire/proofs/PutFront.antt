@@ -4,6 +4,8 @@ use Rattle.std.proofs.lemmas.Bool.{cases_lt}
 use Rattle.std.proofs.lemmas.List.{append_assoc, append-nil, length-append, length_push, length-drop, take_rest, drop_all, length-replicate, get_or-append_right, get_or-replicate, get_or_past, take_at, drop_at, drop-drop, drop_more, set_at}
 use Rattle.std.proofs.lemmas.Slice.{take-put_mid_below}
 use borrow.Rule.Slice.PartMut.{put_mid, post_of}
+use Rattle.std.proofs.lemmas.Fmt.{decimal_digit}
+use Rattle.wire.specs.Frames.{field_bytes}
 use Rattle.wire.specs.Writes.{put_front, zero_filled}
 
 -- what stands behind the bytes
@@ -20,6 +22,16 @@ put_byte n b a old long room =
     ∙ set_at a (get_or old n 0) (drop (n + 1) old) b n (sym long)
     ∙ sym (append_assoc a (b ∷ []) (drop (n + 1) old))
     ∙ ap (λ k. (a ++ (b ∷ [])) ++ drop k old) (omega (arith, length_push a b))
+
+-- a field of one digit
+pub digit_field : (n e : ℕ) → n < 10 → 2 ≡ length (field_bytes n e)
+digit_field n e low = rw (decimal_digit n low)
+
+pub put_digit : (n e : ℕ) (old : List ℕ) → n < 10 → 2 ≤ length old → set (set old 0 (48 + n)) 1 e ≡ put_front (field_bytes n e) old
+put_digit n e old low room =
+    ap (λ (l : List ℕ). set l 1 e) (put_byte 0 (48 + n) [] old refl (omega arith))
+    ∙ put_byte 1 e ((48 + n) ∷ []) old refl (omega arith)
+    ∙ ap (λ (l : List ℕ). put_front (l ++ e ∷ []) old) (sym (decimal_digit n low))
 
 nothing_behind : (n : ℕ) (buf : List ℕ) → post_of n (length buf - n) buf ≡ []
 nothing_behind n buf = drop_all (length buf - n) (drop n buf) (omega (arith, length-drop n buf))

@@ -22,12 +22,19 @@ pub(crate) fn width(number: u16) -> usize
 }
 
 // Puts the number and the byte that ends its field at the front, and answers how many bytes they are.
-#[tactic(auto, using(crate::proofs::PutFront::put_byte, std::proofs::lemmas::List::length_push))]
+#[tactic(auto, using(crate::proofs::PutFront::put_byte, crate::proofs::PutFront::put_digit, crate::proofs::PutFront::digit_field, std::proofs::lemmas::List::length_push))]
+#[inline(always)]
 pub(crate) fn put_field(number: u16, end: u8, buf: &mut [u8]) -> usize
     requires { length (field_bytes number end) ≤ length buf.old }
     ensures value { result ≡ length (field_bytes number end) }
     ensures buffer { buf.new ≡ put_front (field_bytes number end) buf.old }
 {
+    // nearly all numbers are of one digit, and this way takes some 50 instructions less for each line of `bench`
+    if number < 10 {
+        buf[0] = b'0' + number as u8;
+        buf[1] = end;
+        return 2;
+    }
     let digits = width(number);
     write_digits(number as u64, buf, digits);
     buf[digits] = end;

@@ -68,10 +68,16 @@ fn zero_leads(bytes: &[u8]) -> bool
 }
 
 // The number that the longest run of digits at the front writes, and the run's length, where 16 bits hold the number.
-#[tactic(auto, using(crate::proofs::Runs::beyond))]
+#[tactic(auto, using(crate::proofs::Runs::beyond, crate::proofs::Runs::alone))]
 fn digits(bytes: &[u8]) -> Option<(u16, usize)>
     ensures { result ≡ digits bytes.now }
 {
+    // nearly all fields are one digit, and this way takes some 80 instructions less for each line of `bench`
+    if let [first, second, ..] = bytes {
+        if first.is_ascii_digit() && !second.is_ascii_digit() {
+            return Some((u16::from(first - b'0'), 1));
+        }
+    }
     // one pass: `position` for the length and `try_fold` for the number would read each digit twice
     let mut number = 0;
     for (i, byte) in bytes.iter().enumerate() {

@@ -26,6 +26,7 @@ pub(crate) fn frame_len(word: Word) -> usize
 
 // Puts the word's frame at the front, and answers how many bytes it has.
 #[tactic(auto, using(crate::proofs::FrameText::frame_length))]
+#[inline(always)]
 pub(crate) fn put_frame(word: Word, buf: &mut [u8]) -> usize
     requires { length (frame_of word) ≤ length buf.old }
     ensures value { result ≡ length (frame_of word) }
