@@ -5,7 +5,7 @@ ghost use Rattle.heard.specs.Limits.{max_characters};
 ghost use Rattle.heard.specs.Shown.{heard_of, setting_in};
 ghost use Rattle.vote.specs.History.{Seen};
 
-use crate::news::fresh;
+use crate::news::keep;
 use heard::{Heard, decision};
 use quorum::{FailureRule, without};
 use vote::{Decision, Depth, ECHO, News, Vote, Voting};
@@ -112,15 +112,11 @@ impl Findings {
         ensures news { result ≡ news_in self.old found }
     {
         let echoes = without(found.echoes, self.echoes);
-        let second = fresh(self.second, found.second);
-        let third = fresh(self.third, found.third);
-        let fourth = fresh(self.fourth, found.fourth);
-        let fifth = fresh(self.fifth, found.fifth);
         self.echoes |= found.echoes;
-        self.second = self.second.or(found.second);
-        self.third = self.third.or(found.third);
-        self.fourth = self.fourth.or(found.fourth);
-        self.fifth = self.fifth.or(found.fifth);
+        let second = keep(&mut self.second, found.second);
+        let third = keep(&mut self.third, found.third);
+        let fourth = keep(&mut self.fourth, found.fourth);
+        let fifth = keep(&mut self.fifth, found.fifth);
         self.decision = self.decision.or(found.decision);
         News {
             kinds: [echoes, second, third, fourth, fifth],

@@ -1,10 +1,10 @@
 // Words as sets of values: value v adds 2 to the power v.
 ghost use Rattle.std.specs.Prelude.{◌≡◌, ◌≤◌};
-ghost use Rattle.echo_board.specs.Steps.{word_set, fresh as fresh_of};
+ghost use Rattle.echo_board.specs.Steps.{word_set, fresh};
 ghost use Rattle.vote.specs.Limits.{max_characters};
 ghost use Rattle.agreement.specs.Echo.{echo};
-ghost use Rattle.vote.specs.News.{values, first_news};
-ghost use Rattle.vote.specs.Search.{is};
+ghost use Rattle.vote.specs.News.{first_news};
+ghost use Rattle.vote.specs.Search.{or_else};
 ghost use Rattle.vote.specs.Setting.{Setting};
 
 use vote::{ECHO, MAX_CHARACTERS, News};
@@ -20,13 +20,17 @@ fn value_set(word: Option<u8>) -> u16
     }
 }
 
-// The value that is found, unless a word was there before.
+// Keeps the word that is held, and otherwise what is found; answers what is new, as a set.
 #[tactic(auto, using(crate::proofs::Starts::fresh_none, crate::proofs::Starts::fresh_some))]
-pub(crate) fn fresh(before: Option<u8>, found: Option<u8>) -> u16
-    ensures { result ≡ fresh_of before found }
+pub(crate) fn keep(held: &mut Option<u8>, found: Option<u8>) -> u16
+    ensures kept { held.new ≡ or_else held.old found }
+    ensures new { result ≡ fresh held.old found }
 {
-    match before {
-        None => value_set(found),
+    match *held {
+        None => {
+            *held = found;
+            value_set(found)
+        }
         Some(_) => 0,
     }
 }
