@@ -32,6 +32,7 @@ fn least_value(method: Method, kind: u8) -> u8
 
 // The word, unless something stands against it on the port, by rising number.
 #[tactic(auto, unfolding(crate::specs::Taking::word_fault))]
+#[inline(always)]
 fn checked_word(fit: &Fit, port: u8, word: Word) -> Result<Word, BoardFault>
     ensures { result ≡ unless (word_fault fit.now port word) (Ok word) }
 {

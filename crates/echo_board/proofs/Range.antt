@@ -9,40 +9,30 @@ use Rattle.vote.specs.declared.Vote.{Vote}
 use Rattle.vote.specs.History.{Seen, seen, says, speaks}
 use Rattle.vote.specs.Search.{or_else, when, is}
 use Rattle.vote.specs.Setting.{Setting, lowest, decision_on, grades}
+use Rattle.agreement.proofs.Echo.Bounds.{low, zero_low, low_or_zero}
 use Rattle.agreement.specs.Echo.{decides, second, third, outcome, fifth, found, mixed, backed, verdict, said, echoed, decided, posts}
 use Rattle.vote.proofs.Options.{is_found, holds_one, holds_none, else_cases, when_found}
 use Rattle.vote.proofs.Grades.{FitsIn, graded_fits}
-use Rattle.vote.proofs.Seeking.{seek_found}
 use Rattle.vote.proofs.Memories.{memo_sound}
 use Rattle.echo_board.specs.Laws.{last_kind}
 
 module _ (S : Setting) where
-  low : (p : ℕ → Bool) (v : ℕ) → lowest S p ≡ Some v → v ≤ S.characters
-  unfolding lowest
-  low p v h = omega (arith, (seek_found _ p v h).0)
-
-  none : (b : Bool) (v : ℕ) → when b 0 ≡ Some v → v ≤ S.characters
-  none b v h = omega (arith, (when_found b 0 v h).1)
-
-  low_none : (p : ℕ → Bool) (b : Bool) (v : ℕ) → or_else (lowest S p) (when b 0) ≡ Some v → v ≤ S.characters
-  low_none p b v h = ⊎_elim (low p v) (none b v) (else_cases (lowest S p) _ v h)
-
   outcome_low : (x : Seen) (v : ℕ) → outcome S x ≡ Some v → v ≤ S.characters
   unfolding outcome
-  outcome_low x v h = ⊎_elim (none _ v) (low _ v) (else_cases (when _ 0) _ v h)
+  outcome_low x v h = ⊎_elim (zero_low S _ v) (low S _ v) (else_cases (when _ 0) _ v h)
 
   -- ---- words
   found_low : (d : Depth) (c : ℕ) (x : Seen) (v : ℕ) → found S d c x ≡ Some v → (1 ≤ c) × (c ≤ last_kind d) × (v ≤ S.characters)
   unfolding found second third fifth
   found_low d zero x v h = holds_none h
   found_low d (suc zero) x v h = holds_none h
-  found_low One (suc (suc zero)) x v h = (omega arith, omega arith, low _ v h)
-  found_low Two (suc (suc zero)) x v h = (omega arith, omega arith, low _ v h)
-  found_low One (suc (suc (suc zero))) x v h = (omega arith, omega arith, low_none _ _ v h)
-  found_low Two (suc (suc (suc zero))) x v h = (omega arith, omega arith, low_none _ _ v h)
+  found_low One (suc (suc zero)) x v h = (omega arith, omega arith, low S _ v h)
+  found_low Two (suc (suc zero)) x v h = (omega arith, omega arith, low S _ v h)
+  found_low One (suc (suc (suc zero))) x v h = (omega arith, omega arith, low_or_zero S _ _ v h)
+  found_low Two (suc (suc (suc zero))) x v h = (omega arith, omega arith, low_or_zero S _ _ v h)
   found_low One (suc (suc (suc (suc c)))) x v h = holds_none h
   found_low Two (suc (suc (suc (suc zero)))) x v h = (omega arith, omega arith, outcome_low x v h)
-  found_low Two (suc (suc (suc (suc (suc zero))))) x v h = (omega arith, omega arith, low_none _ _ v h)
+  found_low Two (suc (suc (suc (suc (suc zero))))) x v h = (omega arith, omega arith, low_or_zero S _ _ v h)
   found_low Two (suc (suc (suc (suc (suc (suc c)))))) x v h = holds_none h
 
   echo_low : (start : ℕ) (h : List Vote) (v : ℕ) → start ≤ S.characters → echoed S start h v ≡ true → v ≤ S.characters
@@ -79,8 +69,8 @@ module _ (S : Setting) where
   ways_low : (p q : ℕ → Bool) (a b : Bool) (y : Decision)
       → or_else (decides 2 (lowest S p)) (or_else (cond a (decides 1 (lowest S q)) None) (when b (decision_on 0 0))) ≡ Some y → FitsIn S Two y
   ways_low p q a b y h =
-      ⊎_elim (decides_low Two 2 (lowest S p) (omega arith) (low p) y)
-      (λ e. ⊎_elim (cond_low Two a (decides 1 (lowest S q)) y (decides_low Two 1 (lowest S q) (omega arith) (low q))) (when_low Two b y)
+      ⊎_elim (decides_low Two 2 (lowest S p) (omega arith) (low S p) y)
+      (λ e. ⊎_elim (cond_low Two a (decides 1 (lowest S q)) y (decides_low Two 1 (lowest S q) (omega arith) (low S q))) (when_low Two b y)
       (else_cases (cond a (decides 1 (lowest S q)) None) (when b (decision_on 0 0)) y e))
       (else_cases (decides 2 (lowest S p)) (or_else (cond a (decides 1 (lowest S q)) None) (when b (decision_on 0 0))) y h)
 

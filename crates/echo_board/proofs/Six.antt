@@ -1,11 +1,12 @@
 -- One vote makes a board post at most six words: the echo of the vote's value, that of 0, and one word of each other kind. Assumes nothing but that nobody may fail.
-use Rattle.std.proofs.Common.{◌≡◌, ℕ, zero, suc, ◌+◌, ◌*◌, ◌/◌, ◌%◌, ◌≤◌, Bool, true, false, cond, not, ◌&&◌, ◌||◌, eqb, leb, List, [], ◌∷◌, Some, sym, refl, ap, ◌∙◌, ⊎_elim, arith}
+use Rattle.std.proofs.Common.{◌≡◌, ℕ, zero, suc, ◌+◌, ◌*◌, ◌%◌, ◌≤◌, Bool, true, false, cond, not, ◌&&◌, ◌||◌, eqb, leb, List, [], ◌∷◌, Some, sym, refl, ap, ◌∙◌, ⊎_elim, arith}
 use mathlib.Core.Bool.{or-false}
 use lib.Count.{ones, ones_step}
 use Rattle.std.proofs.lemmas.Bool.{and_parts, and_right, or_cases, or_parts, not-true, cases_Bool, cases_eq, eqb-true, eqb-false, ne_eqb}
 use Rattle.quorum.specs.Sets.{set_of}
 use Rattle.quorum.specs.Rules.{strong, strong_by}
 use Rattle.quorum.specs.Truth.{clash, false_unless}
+use Rattle.quorum.specs.Members.{halve}
 use Rattle.quorum.proofs.Masks.{set_of_ext, bit_le, bit_split}
 use Rattle.vote.specs.declared.Vote.{Vote}
 use Rattle.vote.specs.History.{seen, counted, ever, of_kind}
@@ -19,10 +20,6 @@ use Rattle.echo_board.proofs.Quiet.{at_first}
 use Rattle.echo_board.proofs.Stays.{word_said}
 
 -- ---- how many a set has
-halve : (x : ℕ) (b : Bool) → (x * 2 + cond b 1 0) / 2 ≡ x
-halve x true = omega arith
-halve x false = omega arith
-
 low : (x : ℕ) (b : Bool) → (x * 2 + cond b 1 0) % 2 ≡ cond b 1 0
 low x true = omega arith
 low x false = omega arith

@@ -2,7 +2,7 @@
 
 #![tactic(auto)]
 
-ghost use Rattle.std.specs.Prelude.{◌≡◌, ◌<◌, ◌≤◌, ⊤, [], ◌∷◌, ◌++◌, length, MatchOption, MatchResult};
+ghost use Rattle.std.specs.Prelude.{◌≡◌, ◌+◌, ◌<◌, ◌≤◌, ⊤, [], ◌∷◌, ◌++◌, length, nat_le, if◌then◌else◌, MatchOption, MatchResult};
 
 use std::alloc::AllocError;
 
@@ -14,7 +14,7 @@ pub struct Fixed<T, const N: usize> {
     ghost inside: { many ≤ N },
 }
 
-// By hand: `Clone` is not derived for a struct with a ghost field.
+// By hand: `Clone` is not derived for a struct with both a type parameter and a ghost field.
 impl<T: Copy, const N: usize> Clone for Fixed<T, N> {
     ghost is_clone = { λ x y. y ≡ x };
 
@@ -65,6 +65,21 @@ impl<T: Copy, const N: usize> Fixed<T, N> {
         ensures { items_of self.new ≡ [] }
     {
         self.many = 0;
+    }
+
+    // The items of the slice at the end, and true, where there is a place for each; otherwise nothing, and false.
+    pub fn extend(&mut self, items: &[T]) -> bool
+        ensures value { result ≡ nat_le (length (items_of self.old) + length items.now) N }
+        ensures items { items_of self.new ≡ (if result then items_of self.old ++ items.now else items_of self.old) }
+    {
+        if items.len() > N - self.many {
+            return false;
+        }
+        let end = self.many + items.len();
+        let places = &mut self.places[..];
+        places[self.many..end].copy_from_slice(items);
+        self.many = end;
+        true
     }
 
     // One item more at the end, or the item given back where every place is taken.

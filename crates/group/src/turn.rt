@@ -40,6 +40,7 @@ pub struct Turn {
 }
 
 // Writes the slip into the scratch. A slip of more words than one counted word can post would not fit; then it is written elsewhere, and refused.
+#[inline(always)]
 pub(crate) fn written(done: Done, mut slip: Slip) -> Result<Turn, FrameFault>
     ensures value { IfOk result (λ t. t ≡ turn_of done slip.posted) }
     ensures fits { length (words_of slip.posted) * 19 ≤ 114 → is_ok result ≡ true }

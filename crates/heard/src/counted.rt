@@ -30,7 +30,7 @@ impl Heard {
         }
     }
 
-    // Whether the vote is counted already.
+    // Whether the vote is counted already. Its numbers stay a requirement with a name: a type of good votes would be made anew for each call from the three plain numbers.
     #[tactic(auto, using(crate::proofs::Grow::repeats_echo, crate::proofs::Grow::repeats_kind))]
     pub fn repeats(&self, vote: Vote) -> bool
         requires { InRange vote }

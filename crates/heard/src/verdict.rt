@@ -12,7 +12,7 @@ use crate::search::{lowest_backed, lowest_shared};
 use quorum::{FailureRule, ample};
 use vote::{Decision, NOTHING, Voting};
 
-// What is decided for a value at a grade: for 0 no character.
+// What is decided for a value at a grade, a number as in a Decision: for 0 no character.
 pub fn decision(grade: u8, outcome: Option<u8>) -> Option<Decision>
     ensures { result ≡ decides grade outcome }
 {

@@ -91,7 +91,7 @@ pub part_from : (s t : ℕ) → Part s t → part s t ≡ true
 part_from s t f = eq-eqb _ _ (member_ext (bit_or s t) t (λ i. member_or i s t ∙ or_absorbs _ _ (f i)))
 
 -- ---- the set of a test
-halve : (x : ℕ) (b : Bool) → (x * 2 + cond b 1 0) / 2 ≡ x
+pub halve : (x : ℕ) (b : Bool) → (x * 2 + cond b 1 0) / 2 ≡ x
 halve x true = omega arith
 halve x false = omega arith
 

@@ -18,6 +18,7 @@ pub struct CountRule {
 
 // What stands against a count rule of these numbers, the lowest number first, if anything does.
 // The three stay loose: the struct that holds them together is the rule, which is made only where nothing stands against them.
+// Beside `listed_fault`, as the two ask for other numbers: one function over both would first take an enum of them.
 pub fn count_fault(crew: u16, cover: u16, f: u16) -> Option<RuleFault>
     ensures { result ≡ count_fault crew cover f }
 {

@@ -59,6 +59,7 @@ fn in_one(sets: &[u16], set: u16) -> bool
 
 // What stands against a listed rule of these numbers and sets, the lowest number first, if anything does.
 // The three stay loose: the struct that holds them together is the rule, which is made only where nothing stands against them.
+// Beside `count_fault`, as the two ask for other numbers.
 #[tactic(auto, using(crate::proofs::Holders::held_means_it))]
 pub fn listed_fault(crew: u16, cover: u16, sets: &[u16]) -> Option<RuleFault>
     ensures value { result ≡ listed_fault crew cover sets.now }

@@ -43,6 +43,10 @@ impl Gathered {
     pub(crate) fn add_all(&mut self, bytes: &[u8])
         ensures { items_of self.new.bytes ≡ take 122 (items_of self.old.bytes ++ bytes.now) }
     {
+        // nearly all that is added has room, and goes in as a whole
+        if self.bytes.extend(bytes) {
+            return;
+        }
         for byte in bytes {
             self.add(*byte);
         }
@@ -50,6 +54,7 @@ impl Gathered {
 
     // The number as it is written in base ten.
     #[tactic(auto, using(std::proofs::lemmas::Fmt::decimal_digit, crate::proofs::Telling::digits_fit))]
+    #[inline(always)]
     pub(crate) fn add_number(&mut self, number: usize)
         ensures gathers { items_of self.new.bytes ≡ take 122 (items_of self.old.bytes ++ decimal number) }
         ensures digits { length (decimal number) ≤ 20 }

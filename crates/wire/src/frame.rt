@@ -12,6 +12,7 @@ use crate::word::Word;
 impl<'a> Reader<'a> {
     // A field and the byte that ends it: the number, and the place after that byte.
     #[tactic(auto, unfolding(crate::specs::Frames::ended_field))]
+    #[inline(always)]
     fn ended_field(&mut self, low: u16, high: u16, end: u8) -> Result<(u16, usize), FrameFault>
         ensures value { result ≡ ended_field self.old.bytes.now self.old.place low high end }
         ensures range { IfOk result (λ x. (low ≤ x.0) × (x.0 ≤ high)) }

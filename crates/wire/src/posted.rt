@@ -47,7 +47,7 @@ impl Posted {
         }
     }
 
-    // Posts the word of this kind and value too.
+    // Posts the word of this kind and value too, numbers as in a Word.
     pub(crate) fn post(&mut self, kind: u8, value: u8)
         requires kind { IsKind kind }
         requires value { value ≤ 8 }

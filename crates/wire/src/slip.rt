@@ -54,7 +54,7 @@ impl Slip {
         self.posted.count()
     }
 
-    // Puts the word of this kind and value, whatever these numbers are, on the slip; or refuses, and leaves the slip as it was.
+    // Puts the word of this kind and value, whatever these numbers are, so that a bad one gets its refusal, on the slip; or refuses, and leaves the slip as it was.
     #[tactic(auto, using(crate::proofs::Ranging::passed_ranges, crate::proofs::Slipped::same_address))]
     pub fn post(&mut self, kind: u8, value: u8) -> Result<(), FrameFault>
         ensures value { result ≡ unless (range_fault (word_of self.old.posted kind value)) (Ok tt) }

@@ -13,13 +13,13 @@ use Rattle.agreement.specs.Echo.{second, third, outcome, fifth, found, said, ech
 use Rattle.agreement.proofs.Echo.Tests.{lowest_found}
 
 module _ (S : Setting) where
-  low : (p : ℕ → Bool) (v : ℕ) → lowest S p ≡ Some v → v ≤ S.characters
+  pub low : (p : ℕ → Bool) (v : ℕ) → lowest S p ≡ Some v → v ≤ S.characters
   low p v h = (lowest_found S p v h).0
 
-  zero_low : (b : Bool) (v : ℕ) → when b 0 ≡ Some v → v ≤ S.characters
+  pub zero_low : (b : Bool) (v : ℕ) → when b 0 ≡ Some v → v ≤ S.characters
   zero_low b v h = omega (arith, (when_found b 0 v h).1)
 
-  low_or_zero : (p : ℕ → Bool) (b : Bool) (v : ℕ) → or_else (lowest S p) (when b 0) ≡ Some v → v ≤ S.characters
+  pub low_or_zero : (p : ℕ → Bool) (b : Bool) (v : ℕ) → or_else (lowest S p) (when b 0) ≡ Some v → v ≤ S.characters
   low_or_zero p b v h = ⊎_elim (low p v) (zero_low b v) (else_cases (lowest S p) _ v h)
 
   found_bound : (d : Depth) (c : ℕ) (x : Seen) (v : ℕ) → found S d c x ≡ Some v → (1 ≤ c) × (c < 6) × (v ≤ S.characters)
