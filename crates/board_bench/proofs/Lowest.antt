@@ -10,6 +10,7 @@ use Rattle.wire.specs.Fields.{is_within}
 use Rattle.board.specs.declared.fault.BoardFault.{BoardFault}
 use Rattle.board.specs.declared.fault.BoardFault.TheVariants.{Crew, Characters, Depth, Cover, EchoCover, Board, Address, Start}
 use Rattle.board.specs.declared.settings.Settings.{Settings}
+use Rattle.board.specs.Faults.{refusal_of}
 use Rattle.board.specs.Fitting.{settings_fault, echo_under_two}
 use Rattle.board_bench.specs.Asking.{lower, rule_number, settings_number}
 
@@ -67,3 +68,26 @@ module _ (n c f : ℕ) (s : Settings) (fault : RuleFault) (stands : rule.count_f
   pub lowest_told : (R : Rule) → R ≡ count_rule n 3 0 → (o : Option BoardFault) → o ≡ settings_fault R s
       → lower (rule_number (rule.count_fault n c f)) (settings_number (settings_fault (count_rule n c f) s)) ≡ lower (Some (rule.number_of fault)) (settings_number o)
   lowest_told R p o q = lower_told ∙ ap (λ (x : Option BoardFault). lower (Some (rule.number_of fault)) (settings_number x)) (ap (λ (x : Rule). settings_fault x s) (sym p) ∙ sym q)
+
+-- ---- what stands against settings is at no byte of a frame
+abbrev place_told : Option BoardFault → Option ℕ
+place_told None = None
+place_told (Some e) = (refusal_of e).place
+
+placeless : (n k d c e b a s : Bool) → place_told (first n k d c e b a s) ≡ None
+placeless false k d c e b a s = refl
+placeless true false d c e b a s = refl
+placeless true true false c e b a s = refl
+placeless true true true false e b a s = refl
+placeless true true true true false b a s = refl
+placeless true true true true true false a s = refl
+placeless true true true true true true false s = refl
+placeless true true true true true true true false = refl
+placeless true true true true true true true true = refl
+
+pub no_place : (R : Rule) (s : Settings) (e : BoardFault) → settings_fault R s ≡ Some e → (refusal_of e).place ≡ None
+unfolding settings_fault
+no_place R s e p =
+    sym (ap place_told p)
+    ∙ placeless (is_within 1 16 R.crew) (is_within 1 8 s.characters) (is_within 1 2 s.depth) (is_within 2 3 R.cover) (not (echo_under_two s.method R.cover)) (ltb s.board R.crew)
+    (is_within 1 65535 s.group && is_within 1 65535 s.change) (is_within 1 s.characters s.start)

@@ -16,15 +16,12 @@ impl fmt::Display for Decided {
     ghost output = { λ d. Some (decided_line d) };
 
     fn fmt<W: fmt::Write>(&self, f: &mut fmt::Formatter<W>) -> fmt::Result {
-        let value = self.decision.value;
-        let grade = self.decision.grade;
+        let Decision { value, grade } = self.decision;
+        write!(f, "decided {value},{grade}: ")?;
         match self.order {
-            Order::Show(character) => write!(f, "decided {value},{grade}: show {character}"),
-            Order::Load(character) => write!(
-                f,
-                "decided {value},{grade}: load {character} and hold"
-            ),
-            Order::Stay => write!(f, "decided {value},{grade}: stay"),
+            Order::Show(character) => write!(f, "show {character}"),
+            Order::Load(character) => write!(f, "load {character} and hold"),
+            Order::Stay => write!(f, "stay"),
         }
     }
 }

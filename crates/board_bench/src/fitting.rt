@@ -24,6 +24,7 @@ fn lowest(fault: RuleFault, asked: &Asked) -> u8
     }
 }
 
+#[tactic(auto, using(crate::proofs::Lowest::no_place))]
 pub fn fitted(asked: &Asked) -> Result<Fitted<CountRule>, Refusal>
     ensures value { MatchResult result (λ _. lowest_of asked.now ≡ None) (λ r. (lowest_of asked.now ≡ Some r.number) × (r.place ≡ None)) }
     ensures rule { IfOk result (λ b. count_rule b.rule.crew b.rule.cover b.rule.f ≡ count_rule asked.now.crew asked.now.cover asked.now.f) }
@@ -31,9 +32,6 @@ pub fn fitted(asked: &Asked) -> Result<Fitted<CountRule>, Refusal>
 {
     match CountRule::new(asked.crew, asked.cover, asked.f) {
         Err(fault) => Err(Refusal::numbered(lowest(fault, asked))),
-        // Its number alone, not `Refusal::from`: the fault of a frame has a place, and that one of settings has none would take a lemma.
-        Ok(rule) => Fitted::fit(rule, asked.settings).map_err(|fault| Refusal::numbered(
-            Refusal::from(fault).number,
-        )),
+        Ok(rule) => Fitted::fit(rule, asked.settings).map_err(|fault| fault.into()),
     }
 }

@@ -14,6 +14,7 @@ pub(crate) fn start(body: &[u8]) -> Option<Line>
     Some(Line::Start(number(body)?))
 }
 
+// Four reads one after the other: no list of sixty numbers is filled for four, and nearly all lines of a session are of this kind.
 pub(crate) fn carry(body: &[u8]) -> Option<Line>
     ensures call { (line : List ℕ) → call_of line result ≡ readable (numbers_in body.now) carry_with }
     ensures within { (line : List ℕ) → Within line result }

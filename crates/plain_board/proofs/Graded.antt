@@ -9,8 +9,9 @@ use Rattle.vote.specs.History.{Seen, seen, speaks}
 use Rattle.vote.specs.Search.{seek, when}
 use Rattle.vote.specs.Setting.{Setting, decision_on, lowest}
 use Rattle.agreement.specs.Plain.{all_say, some_says, compared, decided}
+use Rattle.agreement.proofs.Plain.Branches.{branch_bounded}
 use Rattle.plain_board.specs.Read.{verdict_on}
-use Rattle.plain_board.proofs.Memory.{branch_low, decided_when}
+use Rattle.plain_board.proofs.Memory.{decided_when}
 use Rattle.vote.proofs.Options.{holds_none}
 use Rattle.vote.proofs.Grades.{FitsIn, graded_fits}
 use Rattle.vote.proofs.Seeking.{seek_found}
@@ -39,4 +40,4 @@ module _ (S : Setting) where
       by_ample false q = holds_none q
 
   pub decided_fits : (h : List Vote) (y : Decision) → decided S h ≡ Some y → FitsIn S S.depth y
-  decided_fits h y e = let k = decided_when S h y e in verdict_fits S.depth k.1 (seen k.0) y (branch_low S k.0 k.1 k.2) k.3
+  decided_fits h y e = let k = decided_when S h y e in verdict_fits S.depth k.1 (seen k.0) y (branch_bounded S k.0 k.1 k.2) k.3

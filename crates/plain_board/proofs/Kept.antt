@@ -12,9 +12,10 @@ use Rattle.vote.proofs.Options.{is_found}
 use Rattle.vote.specs.Setting.{Setting}
 use Rattle.agreement.specs.Plain.{branch, branch_posted, posts, decided, plain}
 use Rattle.vote.specs.News.{no_news, news_of}
+use Rattle.agreement.proofs.Plain.Branches.{branch_bounded, branch_more}
 use Rattle.plain_board.specs.Step.{repeats, taken, branch_news}
 use Rattle.plain_board.specs.Marks.{words, Marks, PlainMarks}
-use Rattle.plain_board.proofs.Memory.{branch_low, branch_stays, decision_stays}
+use Rattle.plain_board.proofs.Memory.{decision_stays}
 use Rattle.plain_board.proofs.Graded.{decided_fits}
 use Rattle.plain_board.proofs.News.{quiet, fixed_news}
 
@@ -54,7 +55,7 @@ module _ (S : Setting) where
       by_kind true b t = t
       by_kind false true t =
           let k = posted_branch h S.depth v t in
-          ap (λ (d : Depth). is v (branch_posted S d (w ∷ h))) k.1 ∙ ap (λ (o : Option ℕ). is v o) (branch_stays S w h v k.0) ∙ eq-eqb v v refl
+          ap (λ (d : Depth). is v (branch_posted S d (w ∷ h))) k.1 ∙ ap (λ (o : Option ℕ). is v o) (branch_more S w h v k.0) ∙ eq-eqb v v refl
       by_kind false false t = t
 
   still_posted : (start : ℕ) (h : List Vote) (w : Vote) (c v : ℕ) → posts S start h c v ≡ true → (again : Bool) → posts S start (cond again h (w ∷ h)) c v ≡ true
@@ -67,14 +68,14 @@ module _ (S : Setting) where
     where
       by_kind : (a b : Bool) → cond a (eqb v start) (b && is v (branch_posted S S.depth h)) ≡ true → v ≤ S.characters
       by_kind true b t = let e = eqb-true v start t in omega arith
-      by_kind false true t = branch_low S h v (posted_branch h S.depth v t).0
+      by_kind false true t = branch_bounded S h v (posted_branch h S.depth v t).0
       by_kind false false t = absurd (false≢true t)
 
   few_words : S.characters ≤ 8 → (start : ℕ) (h : List Vote) (w : Vote) (o p : Option ℕ) → branch S h ≡ o → branch S (w ∷ h) ≡ p → words (news_of (plain S) start h w) ≤ 1
-  few_words low start h w (Some b) p e q = subst (λ (m : News). words m ≤ 1) (quiet S start h w (branch_stays S w h b e ∙ sym e)) no_words
+  few_words low start h w (Some b) p e q = subst (λ (m : News). words m ≤ 1) (quiet S start h w (branch_more S w h b e ∙ sym e)) no_words
   few_words low start h w None None e q = subst (λ (m : News). words m ≤ 1) (quiet S start h w (q ∙ sym e)) no_words
   few_words low start h w None (Some b) e q =
-      let l = branch_low S (w ∷ h) b q in
+      let l = branch_bounded S (w ∷ h) b q in
       subst (λ (m : News). words m ≤ 1) (fixed_news S start h w b (omega arith) e q) (branch_words S.depth b)
 
   pub marks_hold : Marks S

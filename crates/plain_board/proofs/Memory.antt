@@ -1,5 +1,5 @@
 -- How the branch and the decision go on as one vote more is counted. Assumes nothing.
-use Rattle.std.proofs.Common.{◌≡◌, ℕ, zero, suc, ◌≤◌, Bool, true, false, cond, not, ◌&&◌, eqb, List, [], ◌∷◌, Some, None, Option, unwrap_or, sym, refl, ap, ◌∙◌, subst, ap₂, ⊎_elim}
+use Rattle.std.proofs.Common.{◌≡◌, ℕ, zero, suc, ◌≤◌, Bool, true, false, cond, not, ◌&&◌, eqb, List, [], ◌∷◌, Some, None, Option, unwrap_or, sym, refl, ap, ◌∙◌, ap₂, ⊎_elim}
 use Rattle.std.proofs.lemmas.Bool.{and_from, and_parts}
 use Rattle.quorum.specs.Rules.{Rule, Lawful, ample, ample_by}
 use Rattle.quorum.specs.Sets.{member}
@@ -14,11 +14,11 @@ use Rattle.vote.specs.History.{Seen, seen, first, speaks, memo}
 use Rattle.vote.specs.Search.{or_else, when, given}
 use Rattle.vote.specs.Setting.{Setting, decision_on, lowest}
 use Rattle.agreement.specs.Plain.{all_say, some_says, branch_found, branch, compared, decision_found, decided}
+use Rattle.agreement.proofs.Plain.Branches.{branch_more}
 use Rattle.plain_board.specs.Read.{common_of, verdict_on}
 use Rattle.vote.proofs.Counting.{first_other}
 use Rattle.vote.proofs.Options.{holds_none, else_cases}
 use Rattle.vote.proofs.Seeking.{set_of_none}
-use Rattle.plain_board.proofs.Reading.{found_low}
 
 -- ---- options
 or_nothing : {A : Type 0} (o p : Option A) → or_else o p ≡ None → (o ≡ None) × (p ≡ None)
@@ -112,25 +112,8 @@ module _ (S : Setting) where
       → branch S (w ∷ h) ≡ cond a (Some (common_of S (seen (w ∷ h)) 1)) None
   branch_next w h a e q = branch_step w h ∙ ap₂ or_else e (branch_found_is (w ∷ h) a q)
 
-  pub branch_stays : (w : Vote) (h : List Vote) (b : ℕ) → branch S h ≡ Some b → branch S (w ∷ h) ≡ Some b
-  branch_stays w h b e = branch_step w h ∙ ap (λ (z : Option ℕ). or_else z (branch_found S (w ∷ h))) e
-
   pub decision_stays : (w : Vote) (h : List Vote) (d : Decision) → decided S h ≡ Some d → decided S (w ∷ h) ≡ Some d
   decision_stays w h d e = decided_step w h ∙ ap (λ (z : Option Decision). or_else z (decision_found S S.depth (w ∷ h))) e
-
-  -- a branch is a character or 0
-  pub common_low : (x : Seen) (c : ℕ) → common_of S x c ≤ S.characters
-  unfolding common_of lowest
-  common_low x c = found_low S.characters _ _ refl
-
-  pub branch_low : (h : List Vote) (b : ℕ) → branch S h ≡ Some b → b ≤ S.characters
-  branch_low [] b e = holds_none (sym none_at_first ∙ e)
-  branch_low (w ∷ h) b e =
-      ⊎_elim (λ q. branch_low h b q) (λ q. found_low _ (sym (branch_found_is (w ∷ h) _ refl) ∙ q)) (else_cases (branch S h) (branch_found S (w ∷ h)) b (sym (branch_step w h) ∙ e))
-    where
-      found_low : (a : Bool) → cond a (Some (common_of S (seen (w ∷ h)) 1)) None ≡ Some b → b ≤ S.characters
-      found_low true q = let k : common_of S (seen (w ∷ h)) 1 ≡ b = cc in subst (λ (z : ℕ). z ≤ S.characters) k (common_low (seen (w ∷ h)) 1)
-      found_low false q = holds_none q
 
   -- ---- where there was nothing to find, there is nothing after a vote of another kind
   pub waits : Lawful S.rule → 1 ≤ S.rule.cover → (h : List Vote) → branch S h ≡ None → branch_found S h ≡ None
@@ -153,7 +136,7 @@ module _ (S : Setting) where
 
   pub decision_waits : (w : Vote) (h : List Vote) (b : ℕ) → (w.kind ≡ 2 → ⊥) → branch S h ≡ Some b → decided S h ≡ None → decided S (w ∷ h) ≡ None
   decision_waits w h b ne e q =
-      decision_next w h b (branch_stays w h b e) q ∙ verdict_same S.depth b (seen (w ∷ h)) (seen h) (first_other w h 2 ne) ∙ no_verdict h b e q
+      decision_next w h b (branch_more S w h b e) q ∙ verdict_same S.depth b (seen (w ∷ h)) (seen h) (first_other w h 2 ne) ∙ no_verdict h b e q
 
   -- a decision was found at some time, with the branch of that time
   pub decided_when : (h : List Vote) (y : Decision) → decided S h ≡ Some y → (g : List Vote) × (b : ℕ) × (branch S g ≡ Some b) × (verdict_on S S.depth b (seen g) ≡ Some y)

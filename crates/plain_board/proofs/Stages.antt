@@ -5,11 +5,12 @@ use Rattle.vote.specs.declared.Vote.{Vote}
 use Rattle.vote.specs.History.{seen}
 use Rattle.vote.specs.Setting.{Setting}
 use Rattle.agreement.specs.Plain.{branch, decided}
+use Rattle.agreement.proofs.Plain.Branches.{branch_more}
 use Rattle.plain_board.specs.declared.stage.Stage.{Stage}
 use Rattle.plain_board.specs.declared.stage.Stage.TheVariants.{Gathering, Comparing, Decided}
 use Rattle.plain_board.specs.Shown.{stage_of}
 use Rattle.plain_board.specs.Read.{verdict_on}
-use Rattle.plain_board.proofs.Memory.{undecided, branch_stays, decision_next, decision_stays, decision_waits}
+use Rattle.plain_board.proofs.Memory.{undecided, decision_next, decision_stays, decision_waits}
 
 -- a board is at the stage that its branch and its decision say
 pub at_gathering : (o : Option ℕ) (p : Option Decision) → stage_of o p ≡ Gathering → o ≡ None
@@ -43,10 +44,10 @@ module _ (S : Setting) (w : Vote) (h : List Vote) where
   fixed_after b e q = after_is _ _ q (decision_next S w h b q (undecided S h e))
 
   pub compared_after : (b : ℕ) → branch S h ≡ Some b → decided S h ≡ None → stage_of (Some b) (verdict_on S S.depth b (seen (w ∷ h))) ≡ after
-  compared_after b e q = after_is _ _ (branch_stays S w h b e) (decision_next S w h b (branch_stays S w h b e) q)
+  compared_after b e q = after_is _ _ (branch_more S w h b e) (decision_next S w h b (branch_more S w h b e) q)
 
   pub comparing_after : (b : ℕ) → (w.kind ≡ 2 → ⊥) → branch S h ≡ Some b → decided S h ≡ None → Comparing b ≡ after
-  comparing_after b ne e q = after_is _ _ (branch_stays S w h b e) (decision_waits S w h b ne e q)
+  comparing_after b ne e q = after_is _ _ (branch_more S w h b e) (decision_waits S w h b ne e q)
 
   pub decided_after : (b : ℕ) (d : Decision) → branch S h ≡ Some b → decided S h ≡ Some d → Decided b d ≡ after
-  decided_after b d e q = after_is _ _ (branch_stays S w h b e) (decision_stays S w h d q)
+  decided_after b d e q = after_is _ _ (branch_more S w h b e) (decision_stays S w h d q)

@@ -1,5 +1,5 @@
 -- A tally with nobody in it, with one sender more, and after a word of another kind. Assumes nothing.
-use Rattle.std.proofs.Common.{◌≡◌, ℕ, ◌≤◌, eqb, List, [], ◌∷◌, None, sym, refl, ap, ◌∙◌}
+use Rattle.std.proofs.Common.{◌≡◌, ℕ, ◌<◌, ◌≤◌, eqb, List, [], ◌∷◌, None, sym, refl, ap, ◌∙◌}
 use mathlib.Core.Path.{fun_ext}
 use Rattle.std.proofs.lemmas.Bool.{eq-eqb}
 use Rattle.vote.specs.declared.Vote.{Vote}
@@ -11,7 +11,6 @@ use Rattle.heard.specs.Masks.{added}
 use Rattle.heard.specs.Shown.{tally_of as tally_in}
 use Rattle.heard.proofs.Grow.{tally_more}
 use Rattle.plain_board.specs.Shown.{tally_of}
-use Rattle.plain_board.specs.Step.{Adds}
 
 pub tally_empty : (n c : ℕ) → tally_in n (λ i. None) ≡ tally_of n (seen []) c
 unfolding first
@@ -26,6 +25,8 @@ module _ (h : List Vote) (w : Vote) where
   pub tally_other : (n c : ℕ) → (w.kind ≡ c → ⊥) → tally_of n (seen (w ∷ h)) c ≡ tally_of n (seen h) c
   tally_other n c ne = ap (tally_in n) (first_other w h c ne)
 
-pub adds : (w : Vote) → w.value ≤ 8 → (t u : Tally) → u ≡ added t w.value w.sender → Adds w t u
-adds w low t u e = λ n h inside fresh f.
-    e ∙ ap (λ (y : Tally). added y w.value w.sender) f ∙ tally_more n (first h w.kind) w.value w.sender low inside ∙ ap (tally_in n) (sym (first_same h w))
+  -- w's sender among those of its kind
+  pub counted : (n c : ℕ) (t : Tally) → w.value ≤ 8 → w.sender < n → w.kind ≡ c → t ≡ tally_of n (seen h) c → added t w.value w.sender ≡ tally_of n (seen (w ∷ h)) c
+  counted n c t low inside k e =
+      ap (λ (y : Tally). added y w.value w.sender) (e ∙ ap (tally_of n (seen h)) (sym k))
+      ∙ tally_more n (first h w.kind) w.value w.sender low inside ∙ ap (tally_in n) (sym first_same) ∙ ap (tally_of n (seen (w ∷ h))) k

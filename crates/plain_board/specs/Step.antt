@@ -1,5 +1,5 @@
 -- What becomes of a plain board's history as a vote comes, and what the board answers. Assumes nothing.
-use Rattle.std.specs.Prelude.{◌≡◌, ℕ, ◌^◌, ◌<◌, ◌≤◌, Bool, false, cond, List, [], ◌∷◌, Some, None, Option}
+use Rattle.std.specs.Prelude.{◌≡◌, ℕ, ◌^◌, ◌≤◌, Bool, cond, List, [], ◌∷◌, Some, None, Option, ◌==◌}
 use Rattle.vote.specs.declared.Depth.{Depth}
 use Rattle.vote.specs.declared.Depth.TheVariants.{One, Two}
 use Rattle.vote.specs.declared.News.{News}
@@ -10,16 +10,24 @@ use Rattle.agreement.specs.Plain.{plain}
 use Rattle.vote.specs.News.{no_news, news_of}
 use Rattle.plain_board.specs.declared.record.PlainRecord.{PlainRecord}
 use Rattle.heard.specs.declared.tally.Tally.{Tally}
-use Rattle.plain_board.specs.Shown.{tally_of, record_of}
+use Rattle.heard.specs.Masks.{added}
+use Rattle.plain_board.specs.Shown.{record_of}
 
 -- a vote of this kind and sender is in the history: only the first of each counts
 abbrev pub repeats : List Vote → Vote → Bool
 repeats h w = speaks (seen h) w.kind w.sender
 
--- from a tally of the senders of w's kind, w leads to one with its sender
-abbrev pub Adds : Vote → Tally → Tally → Type 0
-Adds w entry exit =
-    (n : ℕ) (h : List Vote) → w.sender < n → repeats h w ≡ false → entry ≡ tally_of n (seen h) w.kind → exit ≡ tally_of n (seen (w ∷ h)) w.kind
+-- the senders of the votes of kind c
+abbrev pub of_kind : ℕ → PlainRecord → Tally
+of_kind c o = cond (c == 1) o.first o.second
+
+-- the record with w's sender among those of its kind
+abbrev pub noted : PlainRecord → Vote → PlainRecord
+noted o w = record {
+  stage = o.stage;
+  first = cond (w.kind == 1) (added o.first w.value w.sender) o.first;
+  second = cond (w.kind == 1) o.second (added o.second w.value w.sender);
+}
 
 -- the history once w has come
 unfoldable pub taken : List Vote → Vote → List Vote

@@ -1,6 +1,7 @@
 // The record of one plain board.
-ghost use Rattle.std.specs.Prelude.{◌≡◌, ◌<◌, ◌≤◌, List, []};
+ghost use Rattle.std.specs.Prelude.{◌≡◌, ◌<◌, ◌≤◌, List, [], not};
 ghost use Rattle.quorum.specs.Limits.{max_crew};
+ghost use Rattle.quorum.specs.Sets.{member};
 ghost use Rattle.vote.specs.declared.Vote.{Vote};
 ghost use Rattle.vote.specs.Limits.{KindUpTo};
 ghost use Rattle.vote.specs.Setting.{Setting};
@@ -8,13 +9,13 @@ ghost use Rattle.agreement.specs.Plain.{branch as branch_by, decided as decided_
 ghost use Rattle.plain_board.specs.Limits.{max_value};
 ghost use Rattle.plain_board.specs.Marks.{PlainMarks};
 ghost use Rattle.plain_board.specs.Shown.{setting_in, record_of};
-ghost use Rattle.plain_board.specs.Step.{repeats as repeats_in, Counts};
+ghost use Rattle.plain_board.specs.Step.{of_kind, noted, Counts};
 
 use crate::outcome::stage_on;
 use crate::posted;
 use crate::stage::Stage;
-use crate::tally::{Tally, common};
-use quorum::{FailureRule, ample, has};
+use crate::tally::{Tally, add_new, common};
+use quorum::{FailureRule, ample};
 use vote::{Decision, Depth, News, Vote, Voting};
 
 // Plain numbers of a fixed size, so that it fits a cabinet and is copied as it stands.
@@ -74,15 +75,15 @@ impl PlainRecord {
         }
     }
 
-    // Whether a word of this kind, a number as in a Vote, and sender has been counted.
-    #[tactic(auto, using(crate::proofs::Records::repeats_first, crate::proofs::Records::repeats_second))]
-    fn repeats(&self, vote: Vote) -> bool
-        requires { (vote.sender < max_crew) × KindUpTo 2 vote.kind }
-        ensures { (S : Setting) (h : List Vote) → vote.sender < S.rule.crew → self.now ≡ record_of S h → result ≡ repeats_in h vote }
+    // Adds the word's sender to those of its kind, a number as in a Vote. False where it is among them already, so that the word repeats another.
+    fn note(&mut self, vote: Vote) -> bool
+        requires { (vote.sender < max_crew) × (vote.value ≤ max_value) }
+        ensures fresh { result ≡ not (member vote.sender (of_kind vote.kind self.old).all) }
+        ensures sender { self.new ≡ noted self.old vote }
     {
         match vote.kind {
-            1 => has(self.first.all, vote.sender),
-            _ => has(self.second.all, vote.sender),
+            1 => add_new(&mut self.first, vote),
+            _ => add_new(&mut self.second, vote),
         }
     }
 
@@ -96,27 +97,20 @@ impl PlainRecord {
         ensures shows { Counts (setting_in voting.now) vote self.old self.new result }
         ensures marks { PlainMarks (setting_in voting.now) }
     {
-        if self.repeats(vote) {
+        if !self.note(vote) {
             return None;
         }
         match (self.stage, vote.kind) {
-            (Stage::Gathering, 1) => {
-                self.first.add(vote.value, vote.sender);
-                if ample(voting.rule, self.first.all) {
-                    let branch = common(voting, &self.first);
-                    self.stage = stage_on(voting, branch, &self.second);
-                    return Some(posted::on_branch(voting.depth, branch));
-                }
-            }
-            (Stage::Gathering, _) => self.second.add(vote.value, vote.sender),
-            (Stage::Comparing(_), 1) => self.first.add(vote.value, vote.sender),
-            (Stage::Comparing(branch), _) => {
-                self.second.add(vote.value, vote.sender);
+            (Stage::Gathering, 1) if ample(voting.rule, self.first.all) => {
+                let branch = common(voting, &self.first);
                 self.stage = stage_on(voting, branch, &self.second);
+                Some(posted::on_branch(voting.depth, branch))
             }
-            (Stage::Decided(_, _), 1) => self.first.add(vote.value, vote.sender),
-            (Stage::Decided(_, _), _) => self.second.add(vote.value, vote.sender),
+            (Stage::Comparing(branch), 2) => {
+                self.stage = stage_on(voting, branch, &self.second);
+                Some(News::none())
+            }
+            _ => Some(News::none()),
         }
-        Some(News::none())
     }
 }

@@ -10,7 +10,7 @@ use quorum::{EitherRule, RuleFault};
 use std::alloc::{AllocError, Global};
 use std::fmt;
 
-// Why a line gives no rule.
+// Why a line gives no rule. No Option in disguise: an unreadable line is a reason of its own, which the reply tells apart from a fault.
 #[derive(Clone, Copy)]
 pub enum NoRule {
     // This stands against the rule that it asks for.

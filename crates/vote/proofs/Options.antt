@@ -1,5 +1,5 @@
 -- What an option holds, and the first of two that holds something. Assumes nothing.
-use Rattle.std.proofs.Common.{◌≡◌, ℕ, Bool, true, false, ◌||◌, eqb, ◌⊎◌, Some, None, Option, sym, refl, ap, inl, inr, arith}
+use Rattle.std.proofs.Common.{◌≡◌, ℕ, Bool, true, false, cond, ◌||◌, eqb, ◌⊎◌, Some, None, Option, sym, refl, ap, inl, inr, arith}
 use mathlib.Core.Bool.{or-false}
 use Rattle.std.proofs.lemmas.Bool.Decides.{nat_tests}
 use Rattle.std.proofs.lemmas.Bool.{false≢true, eqb-true, eq-eqb, ne_eqb}
@@ -75,6 +75,10 @@ else_twice None None = refl
 pub when_found : {A : Type 0} (b : Bool) (x v : A) → when b x ≡ Some v → (b ≡ true) × (v ≡ x)
 when_found true x v h = (refl, cc)
 when_found false x v h = (cc, cc)
+
+pub cond_found : {A : Type 0} (b : Bool) (x : Option A) (v : A) → cond b x None ≡ Some v → (b ≡ true) × (x ≡ Some v)
+cond_found true x v h = (refl, h)
+cond_found false x v h = holds_none h
 
 pub when_from : {A : Type 0} (b : Bool) (x : A) → b ≡ true → given (when b x) ≡ true
 when_from b x p = rw p

@@ -1,5 +1,5 @@
 -- One board of the echo method: whatever it remembers is justified by what it has counted by now. Assumes nothing.
-use Rattle.std.proofs.Common.{◌≡◌, ℕ, zero, suc, Bool, true, false, cond, not, ◌&&◌, eqb, ◌≢◌, ◌⊎◌, List, ◌∷◌, Some, None, Option, sym, refl, ap, inl, inr, ⊎_elim, arith}
+use Rattle.std.proofs.Common.{◌≡◌, ℕ, zero, suc, cond, not, ◌&&◌, eqb, ◌≢◌, ◌⊎◌, List, ◌∷◌, Some, None, Option, sym, refl, ap, inl, inr, ⊎_elim, arith}
 use Rattle.std.proofs.lemmas.Bool.{eqb-false, and_parts, not-true}
 use Rattle.quorum.specs.Rules.{Lawful, ample_by}
 use Rattle.vote.specs.declared.Decision.{Decision}
@@ -9,7 +9,7 @@ use Rattle.vote.specs.declared.Vote.{Vote}
 use Rattle.vote.specs.History.{seen, says, speaks}
 use Rattle.vote.specs.Search.{when, some_below}
 use Rattle.vote.specs.Setting.{Setting, decision_on, lowest}
-use Rattle.vote.proofs.Options.{holds_one, holds_none, else_cases, when_found}
+use Rattle.vote.proofs.Options.{holds_one, holds_none, else_cases, when_found, cond_found}
 use Rattle.vote.proofs.Memories.{memo_sound}
 use Rattle.agreement.specs.Decisions.{NoneDecided}
 use Rattle.agreement.specs.Echo.{decides, approved, mixed, second, third, outcome, fifth, found, backed, verdict, said, decided}
@@ -57,10 +57,6 @@ decides_found g (Some (suc v)) d p =
     let q = holds_one refl e in
     let z : suc v ≡ d.value = ap (λ (x : Decision). x.value) q in
     (ap {B = Option ℕ} Some z, inr (omega arith, sym (ap (λ (x : Decision). x.grade) q)))
-
-cond_found : {A : Type 0} (b : Bool) (x : Option A) (v : A) → cond b x None ≡ Some v → (b ≡ true) × (x ≡ Some v)
-cond_found true x v p = (refl, p)
-cond_found false x v p = holds_none p
 
 module _ (S : Setting) (law : Lawful S.rule) where
   -- ---- words

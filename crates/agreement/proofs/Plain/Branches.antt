@@ -1,10 +1,10 @@
 -- What a board's branch rests on: the votes of kind 1 that it had counted when the branch was fixed. Assumes nothing.
-use Rattle.std.proofs.Common.{◌≡◌, ℕ, ◌≤◌, Bool, true, false, cond, not, ◌&&◌, eqb, ◌≢◌, ◌⊎◌, List, ◌∷◌, Some, None, Option, refl, ◌∙◌, inl, inr, ⊎_elim, arith}
+use Rattle.std.proofs.Common.{◌≡◌, ℕ, ◌≤◌, not, ◌&&◌, eqb, ◌≢◌, ◌⊎◌, List, ◌∷◌, Some, None, Option, refl, ◌∙◌, inl, inr, ⊎_elim, arith}
 use Rattle.vote.specs.declared.Vote.{Vote}
 use Rattle.vote.specs.History.{seen, speaks}
 use Rattle.vote.specs.Search.{or_else}
 use Rattle.vote.specs.Setting.{Setting, lowest}
-use Rattle.vote.proofs.Options.{holds_one, holds_none}
+use Rattle.vote.proofs.Options.{holds_one, cond_found}
 use Rattle.vote.proofs.Memories.{memo_more, memo_sound}
 use Rattle.agreement.specs.Plain.{all_say, branch_found, branch}
 use Rattle.agreement.proofs.Steadies.{Ample}
@@ -21,10 +21,6 @@ module _ (S : Setting) where
   branch_keeps : (w : Vote) (h : List Vote) (b : ℕ) → Branch h b → Branch (w ∷ h) b
   branch_keeps w h b (inl k) = inl (k.0, k.1, ample_more S 1 _ w h k.2)
   branch_keeps w h b (inr k) = inr (k.0, ample_more S 1 _ w h k.1, λ v l m. some_more S 1 _ w h (k.2 v l m))
-
-  cond_found : {A : Type 0} (b : Bool) (x : Option A) (v : A) → cond b x None ≡ Some v → (b ≡ true) × (x ≡ Some v)
-  cond_found true x v p = (refl, p)
-  cond_found false x v p = holds_none p
 
   branch_now : (h : List Vote) (b : ℕ) → branch_found S h ≡ Some b → Branch h b
   unfolding branch_found

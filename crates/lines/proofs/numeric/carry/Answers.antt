@@ -1,5 +1,5 @@
 -- Just four numbers are to, from, kind and value. Assumes nothing.
-use Rattle.std.proofs.Common.{rules, ◌≡◌, ◌∙◌, ℕ, List, ◌∷◌, Some, None, Option, sym, ap, arith}
+use Rattle.std.proofs.Common.{rules, ◌≡◌, ◌∙◌, ℕ, List, ◌∷◌, Some, None, Option, sym, refl, ap, arith}
 use Rattle.lines.specs.Calls.{Call}
 use Rattle.lines.specs.Lines.{readable, carry_with}
 use Rattle.numerals.specs.Numerals.{number_in, numbers_in}
@@ -12,21 +12,18 @@ use Rattle.lines.proofs.numeric.carry.Goals.{In_ok-to, In_ok-from, In_ok-kind}
 abbrev Behind : List ℕ → (List ℕ → List ℕ) → List ℕ → Type 0
 Behind rest led body = (call : List ℕ → Call) → readable (numbers_in rest) (λ vs. call (led vs)) ≡ readable (numbers_in body) call
 
+one_more : (body rest : List ℕ) (led : List ℕ → List ℕ) (f : ℕ × List ℕ) → Some f ≡ field_in rest → Behind rest led body → Behind f.1 (λ vs. led (f.0 ∷ vs)) body
+one_more body rest led f next behind call = field_first rest f (λ vs. call (led vs)) next ∙ behind call
+
 behind_to : (c : In_ok-to) → Behind c.in_ok-to.rest.now (λ vs. c.in_ok-to.to ∷ vs) c.args.body.now
-behind_to c call =
-    let first : Some (c.in_ok-to.to, c.in_ok-to.rest.now) ≡ field_in c.args.body.now = search rules in
-    field_first c.args.body.now (c.in_ok-to.to, c.in_ok-to.rest.now) call first
+behind_to c = one_more c.args.body.now c.args.body.now (λ vs. vs) (c.in_ok-to.to, c.in_ok-to.rest.now) (search rules) (λ call. refl)
 
 behind_from : (c : In_ok-from) → Behind c.in_ok-to.rest.now (λ vs. c.in_ok-to.to ∷ vs) c.args.body.now → Behind c.in_ok-from.rest.now (λ vs. c.in_ok-to.to ∷ c.in_ok-from.from ∷ vs) c.args.body.now
-behind_from c behind call =
-    let second : Some (c.in_ok-from.from, c.in_ok-from.rest.now) ≡ field_in c.in_ok-to.rest.now = search rules in
-    field_first c.in_ok-to.rest.now (c.in_ok-from.from, c.in_ok-from.rest.now) (λ vs. call (c.in_ok-to.to ∷ vs)) second ∙ behind call
+behind_from c = one_more c.args.body.now c.in_ok-to.rest.now (λ vs. c.in_ok-to.to ∷ vs) (c.in_ok-from.from, c.in_ok-from.rest.now) (search rules)
 
 behind_kind : (c : In_ok-kind) → Behind c.in_ok-from.rest.now (λ vs. c.in_ok-to.to ∷ c.in_ok-from.from ∷ vs) c.args.body.now
     → Behind c.in_ok-kind.rest.now (λ vs. c.in_ok-to.to ∷ c.in_ok-from.from ∷ c.in_ok-kind.kind ∷ vs) c.args.body.now
-behind_kind c behind call =
-    let third : Some (c.in_ok-kind.kind, c.in_ok-kind.rest.now) ≡ field_in c.in_ok-from.rest.now = search rules in
-    field_first c.in_ok-from.rest.now (c.in_ok-kind.kind, c.in_ok-kind.rest.now) (λ vs. call (c.in_ok-to.to ∷ c.in_ok-from.from ∷ vs)) third ∙ behind call
+behind_kind c = one_more c.args.body.now c.in_ok-from.rest.now (λ vs. c.in_ok-to.to ∷ c.in_ok-from.from ∷ vs) (c.in_ok-kind.kind, c.in_ok-kind.rest.now) (search rules)
 
 pub returns-in_err-to-clause-call : goal.returns-in_err-to-clause-call
 returns-in_err-to-clause-call c = λ line.

@@ -1,56 +1,57 @@
 -- From each stage, by the word's kind. Assumes nothing.
-use Rattle.std.proofs.Common.{◌≤◌, sym, ◌∙◌, arith}
+use Rattle.std.proofs.Common.{◌≡◌, ◌≤◌, true, false, arith}
+use Rattle.quorum.specs.Sets.{member}
 use Rattle.plain_board.specs.Shown.{setting_in}
-use Rattle.plain_board.specs.Step.{Counts}
-use Rattle.plain_board.proofs.Tallies.{adds}
-use Rattle.plain_board.proofs.Moves.{as_made, again, first_waits, first_fixes, second_waits, first_late, second_compares, first_after, second_after}
+use Rattle.plain_board.specs.Step.{of_kind, Counts}
+use Rattle.plain_board.proofs.Moves.{again, waits, waits_still, fixes, waits_on, compares, stays_decided}
 use Rattle.plain_board.proofs.record.PlainRecord.count.Goals as goal
-use Rattle.plain_board.proofs.record.PlainRecord.count.Goals.{in-Gathering-eq1+else-ample, in-Gathering-default, in-Comparing-eq1, in-Comparing-default, in-Decided-eq1, in-Decided-default}
+use Rattle.plain_board.proofs.record.PlainRecord.count.Goals.{in_default-via-in-Gathering-eq1+else-ample, in_default-via-in-Gathering+in_default, in_default-via-in-Comparing+in_default, in_default-via-in_default}
 
-pub returns-then-repeats-clause-shows : goal.returns-then-repeats-clause-shows
+pub returns-then-not-note-clause-shows : goal.returns-then-not-note-clause-shows
 unfolding Counts
-returns-then-repeats-clause-shows g c = λ h low e.
+returns-then-not-note-clause-shows g c = λ h low e.
     let S = setting_in c.args.voting.now in
-    again S c.args.vote h c.args.self.now e (sym (c.repeats.ensures S h (omega arith) e) ∙ c.if-repeats.true)
+    let o = c.args.self.now in
+    let there : member c.args.vote.sender (of_kind c.args.vote.kind o).all ≡ true = grind arith in
+    again S c.args.vote h o _ e (omega arith) (omega arith) (omega arith) (omega arith) c.note.ensures.sender there
 
-pub returns-then-ample-clause-shows : goal.returns-then-ample-clause-shows
+pub returns-in-Gathering-eq1-clause-shows : goal.returns-in-Gathering-eq1-clause-shows
 unfolding Counts
-returns-then-ample-clause-shows g c = λ h low e.
+returns-in-Gathering-eq1-clause-shows g c = λ h low e.
     let S = setting_in c.args.voting.now in
+    let o = c.args.self.now in
+    let there : member c.args.vote.sender (of_kind c.args.vote.kind o).all ≡ false = grind arith in
     let few : c.common-branch.result ≤ 8 = omega (arith, c.common-branch.ensures.low) in
-    let fresh = sym (c.repeats.ensures S h (omega arith) e) ∙ c.if-repeats.false in
-    first_fixes S c.args.vote h c.args.self.now e (omega arith) fresh c.in-Gathering-eq1.is-0 c.on_branch.result
-    c.in-Gathering-eq1.is-1 c.add.new.self (adds c.args.vote (omega arith) _ _ c.add.ensures) c.if-ample.ensures.value
-    c.common-branch.result few c.common-branch.ensures.value c.stage_on-self.result c.stage_on-self.ensures c.on_branch.ensures
+    fixes S c.args.vote h o _ e (omega arith) (omega arith) (omega arith) (omega arith) c.note.ensures.sender there c.on_branch.result c.in-Gathering-eq1.is-0
+    c.if-ample.ensures.value c.common-branch.result few c.common-branch.ensures.value c.stage_on-self.result c.stage_on-self.ensures c.on_branch.ensures
 
-pub returns-clause-shows : goal.returns-clause-shows
+pub returns-in-Comparing-eq2-clause-shows : goal.returns-in-Comparing-eq2-clause-shows
 unfolding Counts
-returns-clause-shows g c = λ h low e.
+returns-in-Comparing-eq2-clause-shows g c = λ h low e.
     let S = setting_in c.args.voting.now in
-    let fresh = sym (c.repeats.ensures S h (omega arith) e) ∙ c.if-repeats.false in
-    elim c.match-self.branch [
-      | in-Gathering-eq1+else-ample w ↦
-          as_made S c.args.vote h _ _ _ w.self-is
-          (first_waits S c.args.vote h c.args.self.now e (omega arith) fresh w.in-Gathering-eq1.is-0 c.none.result
-          w.in-Gathering-eq1.is-1 w.add.new.self (adds c.args.vote (omega arith) _ _ w.add.ensures) w.if-ample.ensures.value c.none.ensures)
-      | in-Gathering-default w ↦
-          as_made S c.args.vote h _ _ _ w.self-is
-          (second_waits S c.args.vote h c.args.self.now e (omega arith) fresh w.in-Gathering-default.is-0 c.none.result
-          (g.met.R.FailureRule.lawful c.args.voting.now.rule.now) low (omega arith) w.add-in-Gathering-default.new.self (adds c.args.vote (omega arith) _ _ w.add-in-Gathering-default.ensures) c.none.ensures)
-      | in-Comparing-eq1 w ↦
-          as_made S c.args.vote h _ _ _ w.self-is
-          (first_late S c.args.vote h c.args.self.now e (omega arith) fresh _ w.in-Comparing-eq1.is-0 c.none.result c.none.ensures
-          w.in-Comparing-eq1.is-1 w.add-in-Comparing-eq1.new.self (adds c.args.vote (omega arith) _ _ w.add-in-Comparing-eq1.ensures))
-      | in-Comparing-default w ↦
-          as_made S c.args.vote h _ _ _ w.self-is
-          (second_compares S c.args.vote h c.args.self.now e (omega arith) fresh w.in-Comparing-default.branch w.in-Comparing-default.is-0 c.none.result c.none.ensures
-          (omega arith) (omega arith) w.add-in-Comparing-default.new.self (adds c.args.vote (omega arith) _ _ w.add-in-Comparing-default.ensures) w.stage_on-self-in-Comparing-default.result w.stage_on-self-in-Comparing-default.ensures)
-      | in-Decided-eq1 w ↦
-          as_made S c.args.vote h _ _ _ w.self-is
-          (first_after S c.args.vote h c.args.self.now e (omega arith) fresh _ _ w.in-Decided-eq1.is-0 c.none.result c.none.ensures
-          w.in-Decided-eq1.is-1 w.add-in-Decided-eq1.new.self (adds c.args.vote (omega arith) _ _ w.add-in-Decided-eq1.ensures))
-      | in-Decided-default w ↦
-          as_made S c.args.vote h _ _ _ w.self-is
-          (second_after S c.args.vote h c.args.self.now e (omega arith) fresh _ _ w.in-Decided-default.is-0 c.none.result c.none.ensures
-          (omega arith) w.add-in-Decided-default.new.self (adds c.args.vote (omega arith) _ _ w.add-in-Decided-default.ensures))
+    let o = c.args.self.now in
+    let there : member c.args.vote.sender (of_kind c.args.vote.kind o).all ≡ false = grind arith in
+    compares S c.args.vote h o _ e (omega arith) (omega arith) (omega arith) (omega arith) c.note.ensures.sender there c.none.result c.in-Comparing-eq2.branch c.in-Comparing-eq2.is-0 c.none.ensures
+    (omega arith) c.stage_on-self-in-Comparing-eq2.result c.stage_on-self-in-Comparing-eq2.ensures
+
+pub returns-in_default-clause-shows : goal.returns-in_default-clause-shows
+unfolding Counts
+returns-in_default-clause-shows g c = λ h low e.
+    let S = setting_in c.args.voting.now in
+    let o = c.args.self.now in
+    let there : member c.args.vote.sender (of_kind c.args.vote.kind o).all ≡ false = grind arith in
+    let news = c.none-in_default in
+    elim c.in_default.branch [
+      | in_default-via-in-Gathering-eq1+else-ample w ↦
+          waits S c.args.vote h o _ e (omega arith) (omega arith) (omega arith) (omega arith) c.note.ensures.sender there news.result w.in-Gathering-eq1.is-0
+          w.if-ample.ensures.value news.ensures
+      | in_default-via-in-Gathering+in_default w ↦
+          waits_still S c.args.vote h o _ e (omega arith) (omega arith) (omega arith) (omega arith) c.note.ensures.sender there news.result w.in_default.is-0
+          (g.met.R.FailureRule.lawful c.args.voting.now.rule.now) low w.in_default.is-1.1 news.ensures
+      | in_default-via-in-Comparing+in_default w ↦
+          waits_on S c.args.vote h o _ e (omega arith) (omega arith) (omega arith) (omega arith) c.note.ensures.sender there news.result
+          w.in_default.field-0-0 w.in_default.is-0 news.ensures w.in_default.is-1.1
+      | in_default-via-in_default w ↦
+          stays_decided S c.args.vote h o _ e (omega arith) (omega arith) (omega arith) (omega arith) c.note.ensures.sender there news.result
+          w.in_default.field-0-0 w.in_default.field-1-0 w.in_default.is-0 news.ensures
     ]
