@@ -79,6 +79,6 @@ pub(crate) fn word_taken<R: FailureRule>(
     ensures { result ≡ word_taken (R.meaning rule.now) fit.now port bytes.now }
 {
     check_port(rule, port)?;
-    let word = read_frame(bytes).map_err(|fault| BoardFault::Frame(fit.board, fault))?;
+    let word = read_frame(bytes).map_err(|fault| (fit.board, fault))?;
     checked_word(fit, port, word)
 }
