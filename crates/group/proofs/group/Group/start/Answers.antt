@@ -6,7 +6,6 @@ use Rattle.std.proofs.lemmas.Result.{IfOk-at_ok}
 use Rattle.board.specs.declared.fit.Fit.{Fit}
 use Rattle.board.specs.Shown.{record_of}
 use Rattle.board.specs.Started.{first_posted}
-use Rattle.group.specs.declared.fault.GroupFault.TheVariants.{Outside, Listed, Begun}
 use Rattle.group.specs.declared.turn.Done.TheVariants.{Started}
 use Rattle.group.specs.Calls.{starting, run_of, turn_of}
 use Rattle.group.specs.Promises.{Plays}
@@ -18,17 +17,17 @@ use Rattle.group.proofs.Shown.{begun_at, records_start}
 use Rattle.group.proofs.group.Group.start.Goals as goal
 
 pub returns-then-board-from-clause-plays : goal.returns-then-board-from-clause-plays
-returns-then-board-from-clause-plays g c = start_refused c.args.self.now.terms c.args.self.now.records (g.met.R.FailureRule.lawful c.args.self.now.rule) c.args.board Outside (grind (arith, common_steps))
+returns-then-board-from-clause-plays g c = start_refused _ _ (g.met.R.FailureRule.lawful c.args.self.now.rule) _ _ (grind (arith, common_steps))
 
 pub returns-then-lies-clause-plays : goal.returns-then-lies-clause-plays
 returns-then-lies-clause-plays g c =
     let lies = c.if-lies.ensures (g.R.FailureRule.meaning c.args.self.now.rule) in
-    start_refused c.args.self.now.terms c.args.self.now.records (g.met.R.FailureRule.lawful c.args.self.now.rule) c.args.board Listed (grind (arith, common_steps))
+    start_refused _ _ (g.met.R.FailureRule.lawful c.args.self.now.rule) _ _ (grind (arith, common_steps))
 
 pub returns-then-begun-clause-plays : goal.returns-then-begun-clause-plays
 returns-then-begun-clause-plays g c =
     let lies = c.if-lies.ensures (g.R.FailureRule.meaning c.args.self.now.rule) in
-    start_refused c.args.self.now.terms c.args.self.now.records (g.met.R.FailureRule.lawful c.args.self.now.rule) c.args.board Begun (grind (arith, common_steps))
+    start_refused _ _ (g.met.R.FailureRule.lawful c.args.self.now.rule) _ _ (grind (arith, common_steps))
 
 pub returns-in_err-fitting-clause-plays : goal.returns-in_err-fitting-clause-plays
 unfolding Plays
