@@ -29,7 +29,14 @@ settings_fault R s = first_failed (
     ∷ (is_within 1 s.characters s.start, Start)
     ∷ [])
 
--- of those, the tests of a vote: what a board is fitted with and what a group is opened with
+-- of those, the two of the rule alone, which each frame is tested with too
+abbrev pub crew_fault : Rule → Option BoardFault
+crew_fault R = cond (is_within 1 16 R.crew) None (Some Crew)
+
+abbrev pub cover_fault : Rule → Option BoardFault
+cover_fault R = cond (is_within 2 3 R.cover) None (Some Cover)
+
+-- the tests of a vote: what a board is fitted with and what a group is opened with
 abbrev pub vote_tests : Rule → Method → ℕ → ℕ → List (Bool × BoardFault)
 vote_tests R m d k =
     (is_within 1 16 R.crew, Crew)

@@ -15,14 +15,15 @@ use crate::taking::word_taken;
 use echo_board::EchoRecord;
 use plain_board::PlainRecord;
 use quorum::FailureRule;
-use vote::{Method, Vote};
+use vote::{ECHO, Method, News, Vote};
 use wire::{Posted, Slip};
 
 impl Fitting {
-    // The slip with these sets of values by kind.
-    fn slip(&self, kinds: [u16; 5]) -> Slip
-        ensures { result.posted ≡ posted_of self.now.fit (record { kinds = kinds }) }
+    // The slip with the words of the news.
+    fn slip(&self, news: News) -> Slip
+        ensures { result.posted ≡ posted_of self.now.fit news }
     {
+        let kinds = news.kinds;
         let posted = Posted {
             group: self.fit.group,
             change: self.fit.change,
@@ -52,7 +53,7 @@ impl Fitting {
         ensures value { (R : Rule) → result.posted ≡ first_posted R self.now.fit }
         ensures fits { length (words_of result.posted) * 19 ≤ 114 }
     {
-        self.slip([1 << self.fit.start, 0, 0, 0, 0])
+        self.slip(News::one(ECHO, self.fit.start))
     }
 
     // Takes a frame on a port: the word is counted, or found counted already, and the slip has the words just posted; or it is refused, and nothing changes.
@@ -74,12 +75,12 @@ impl Fitting {
             value: word.value,
         };
         match self.count(rule, state, vote) {
-            None => Ok((Taken::Again, self.slip([0; 5]))),
-            Some(news) => Ok((Taken::Counted, self.slip(news.kinds))),
+            None => Ok((Taken::Again, self.slip(News::none()))),
+            Some(news) => Ok((Taken::Counted, self.slip(news))),
         }
     }
 
-    // Whether a started board with this record has posted the word, whatever these numbers are.
+    // Whether a started board with this record has posted the word, whatever these numbers are: a caller may ask of any, and is answered, where a type of five kinds would ask more of the caller.
     pub fn has_posted(&self, state: &Record, kind: u8, value: u8) -> bool
         ensures { (R : Rule) (h : List Vote) → state.now ≡ record_of R self.now.fit h → result ≡ (method_of self.now.fit.method (setting_of R self.now.fit)).posts self.now.fit.start h kind value }
     {

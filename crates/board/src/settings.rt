@@ -1,7 +1,7 @@
 // What a board is fitted with, and what stands against it.
 ghost use Rattle.std.specs.Prelude.{◌≡◌, true};
 ghost use Rattle.vote.specs.Setting.{grades};
-ghost use Rattle.board.specs.Fitting.{settings_fault, vote_fault, address_fault, Judged};
+ghost use Rattle.board.specs.Fitting.{settings_fault, crew_fault, cover_fault, vote_fault, address_fault, Judged};
 ghost use Rattle.wire.specs.Fields.{is_within};
 
 use crate::fault::BoardFault;
@@ -31,6 +31,28 @@ pub fn settings_fault<R: FailureRule>(rule: &R, settings: &Settings) -> Option<B
     settings.fitting(rule).err()
 }
 
+// The crew of the rule, unless it is none that a board can be of.
+pub(crate) fn kept_crew<R: FailureRule>(rule: &R) -> Result<u8, BoardFault>
+    ensures { Judged (crew_fault (R.meaning rule.now)) (λ n. n ≡ (R.meaning rule.now).crew) result }
+{
+    let crew = rule.crew();
+    if !(1..=MAX_CREW).contains(&crew) {
+        return Err(BoardFault::Crew);
+    }
+    Ok(crew)
+}
+
+// The cover of the rule, unless no board votes under it.
+pub(crate) fn kept_cover<R: FailureRule>(rule: &R) -> Result<u8, BoardFault>
+    ensures { Judged (cover_fault (R.meaning rule.now)) (λ n. n ≡ (R.meaning rule.now).cover) result }
+{
+    let cover = rule.cover();
+    if !(MIN_COVER..=MAX_COVER).contains(&cover) {
+        return Err(BoardFault::Cover);
+    }
+    Ok(cover)
+}
+
 // The depth and the last character of a vote, in the sizes that they are kept, or what stands against them under the rule, by rising number.
 pub fn kept_vote<R: FailureRule>(
     rule: &R,
@@ -40,17 +62,12 @@ pub fn kept_vote<R: FailureRule>(
 ) -> Result<(Depth, u8), BoardFault>
     ensures { Judged (vote_fault (R.meaning rule.now) method depth characters) (λ v. (grades v.0 ≡ depth) × (v.1 ≡ characters)) result }
 {
-    if !(1..=MAX_CREW).contains(&rule.crew()) {
-        return Err(BoardFault::Crew);
-    }
+    kept_crew(rule)?;
     if !(1..=u32::from(MAX_CHARACTERS)).contains(&characters) {
         return Err(BoardFault::Characters);
     }
     let depth = Depth::try_from(depth).map_err(|_| BoardFault::Depth)?;
-    let cover = rule.cover();
-    if !(MIN_COVER..=MAX_COVER).contains(&cover) {
-        return Err(BoardFault::Cover);
-    }
+    let cover = kept_cover(rule)?;
     if method == Method::Echo && cover < ECHO_COVER {
         return Err(BoardFault::EchoCover);
     }

@@ -4,7 +4,8 @@ ghost use Rattle.board.specs.Taking.{kinds_used, least_value, word_fault, port_f
 
 use crate::fault::BoardFault;
 use crate::fit::Fit;
-use quorum::{FailureRule, MAX_COVER, MAX_CREW, MIN_COVER};
+use crate::settings::{kept_cover, kept_crew};
+use quorum::FailureRule;
 use vote::{Depth, Method};
 use wire::{Word, read_frame};
 
@@ -56,13 +57,8 @@ fn checked_word(fit: &Fit, port: u8, word: Word) -> Result<Word, BoardFault>
 fn check_port<R: FailureRule>(rule: &R, port: u8) -> Result<(), BoardFault>
     ensures { result ≡ unless (port_fault (R.meaning rule.now) port) (Ok tt) }
 {
-    let crew = rule.crew();
-    if !(1..=MAX_CREW).contains(&crew) {
-        return Err(BoardFault::Crew);
-    }
-    if !(MIN_COVER..=MAX_COVER).contains(&rule.cover()) {
-        return Err(BoardFault::Cover);
-    }
+    let crew = kept_crew(rule)?;
+    kept_cover(rule)?;
     if port >= crew {
         return Err(BoardFault::Port);
     }
@@ -80,6 +76,6 @@ pub(crate) fn word_taken<R: FailureRule>(
     ensures { result ≡ word_taken (R.meaning rule.now) fit.now port bytes.now }
 {
     check_port(rule, port)?;
-    let word = read_frame(bytes).map_err(|fault| BoardFault::Frame(fit.board, fault))?;
+    let word = read_frame(bytes).map_err(|fault| (fit.board, fault))?;
     checked_word(fit, port, word)
 }

@@ -1,10 +1,8 @@
 -- A call that posts nothing answers with an empty scratch. Assumes nothing.
-use Rattle.std.proofs.Common.{◌≡◌, true, eqb, [], length, replicate, sym, ap, ◌∙◌}
-use Rattle.std.specs.List.{flat_map}
+use Rattle.std.proofs.Common.{◌≡◌, true, eqb, [], length, replicate, sym}
 use Rattle.std.proofs.lemmas.Bool.{eqb-true}
 use Rattle.std.proofs.lemmas.List.{nil_from_length}
 use Rattle.wire.specs.declared.posted.Posted.{Posted}
-use Rattle.wire.specs.Frames.{frame_of}
 use Rattle.wire.specs.Slips.{words_of, frames_of}
 use Rattle.group.specs.declared.turn.Done.{Done}
 use Rattle.group.specs.declared.turn.Turn.{Turn}

@@ -1,10 +1,12 @@
 // Why a group is not opened, or a call on it is refused.
 ghost use Rattle.std.specs.Prelude.{◌≡◌};
 ghost use Rattle.group.specs.Faults.{refusal_of};
+ghost use Rattle.board.specs.declared.fault.BoardFault.TheVariants.{Frame};
 ghost use Rattle.group.specs.declared.fault.GroupFault.TheVariants.{Board, Opening};
 
 use board::BoardFault;
 use refusal::Refusal;
+use wire::FrameFault;
 
 #[derive(Clone, Copy, PartialEq, Eq, Debug)]
 pub enum GroupFault {
@@ -66,5 +68,14 @@ impl From<(u8, BoardFault)> for GroupFault {
 
     fn from(e: (u8, BoardFault)) -> GroupFault {
         GroupFault::Board(e.0, e.1)
+    }
+}
+
+// The same of a frame that the board itself could not write.
+impl From<(u8, FrameFault)> for GroupFault {
+    ghost from_gives = { λ e r. r ≡ Board e.0 (Frame e.0 e.1) };
+
+    fn from(e: (u8, FrameFault)) -> GroupFault {
+        GroupFault::Board(e.0, BoardFault::from(e))
     }
 }

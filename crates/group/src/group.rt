@@ -47,7 +47,7 @@ impl<R: FailureRule> Group<R> {
         self.record(board).is_some()
     }
 
-    // Whether a board that has started has posted the word, whatever these numbers are.
+    // Whether a board that has started has posted the word, whatever these numbers are: a call may name any, and is answered, where a type of five kinds would ask more of the caller.
     pub(crate) fn posted(&self, board: u16, kind: u16, value: u16) -> bool
         ensures value { TellsPosted (R.meaning self.now.rule) self.now.terms self.now.records board kind value result }
         ensures within { result ≡ true → (kind ≤ 5) × (value ≤ 8) }

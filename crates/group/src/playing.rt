@@ -6,7 +6,6 @@ ghost use Rattle.group.specs.Promises.{Plays};
 use crate::fault::GroupFault;
 use crate::group::Group;
 use crate::turn::{Done, Turn, written};
-use board::BoardFault;
 use quorum::FailureRule;
 use wire::Word;
 
@@ -25,12 +24,9 @@ impl<R: FailureRule> Group<R> {
         if self.begun(board) {
             return Err(GroupFault::Begun);
         }
-        let Some(fitting) = self.terms.fitting(board) else {
-            return Err(GroupFault::Outside);
-        };
-        let turn = written(Done::Started, fitting.first_slip()).map_err(|fault| {
-            GroupFault::Board(board as u8, BoardFault::Frame(board as u8, fault))
-        })?;
+        let fitting = self.terms.fitting(board).ok_or(GroupFault::Outside)?;
+        let slip = fitting.first_slip();
+        let turn = written(Done::Started, slip).map_err(|fault| (board as u8, fault))?;
         self.records.boards[board as usize] = Some(fitting.record());
         Ok(turn)
     }

@@ -5,7 +5,7 @@ ghost use Rattle.group.specs.Steps.{BoardTakes, Brings, Takes};
 use crate::fault::GroupFault;
 use crate::group::Group;
 use crate::turn::{Turn, written};
-use board::{BoardFault, Fitting, Record};
+use board::{Fitting, Record};
 use quorum::FailureRule;
 use wire::{FRAME_MAX, Word, write_word};
 
@@ -20,16 +20,14 @@ fn taken<R: FailureRule>(
     ensures { BoardTakes (R.meaning rule.now) fitting.now.fit port bytes.now slot.old slot.new result }
 {
     let board = fitting.fit.board;
+    // matched in place: through `as_mut` and `ok_or` the proof would have to follow the loan of the record
     let Some(record) = slot else {
         return Err(GroupFault::Idle);
     };
     let (taken, slip) = fitting
         .take(rule, record, port, bytes)
-        .map_err(|fault| GroupFault::Board(board, fault))?;
-    written(taken.into(), slip).map_err(|fault| GroupFault::Board(
-        board,
-        BoardFault::Frame(board, fault),
-    ))
+        .map_err(|fault| (board, fault))?;
+    written(taken.into(), slip).map_err(|fault| GroupFault::from((board, fault)))
 }
 
 // `same` stays spelled out at each call that changes records: two equations tell plainer than the name of a definition what is kept.
@@ -39,9 +37,7 @@ impl<R: FailureRule> Group<R> {
         ensures same { (self.new.rule ≡ self.old.rule) × (self.new.terms ≡ self.old.terms) }
         ensures takes { Takes (R.meaning self.old.rule) self.old.terms to port bytes.now self.old.records self.new.records result }
     {
-        let Some(fitting) = self.terms.fitting(to) else {
-            return Err(GroupFault::Outside);
-        };
+        let fitting = self.terms.fitting(to).ok_or(GroupFault::Outside)?;
         taken(
             &self.rule,
             &fitting,
@@ -58,9 +54,7 @@ impl<R: FailureRule> Group<R> {
         ensures brings { Brings (R.meaning self.old.rule) self.old.terms to word self.old.records self.new.records result }
     {
         let mut frame = [0; FRAME_MAX];
-        let len = write_word(word, &mut frame).map_err(|fault| {
-            GroupFault::Board(word.sender, BoardFault::Frame(word.sender, fault))
-        })?;
+        let len = write_word(word, &mut frame).map_err(|fault| (word.sender, fault))?;
         self.take(to, word.sender, &frame[..len])
     }
 }

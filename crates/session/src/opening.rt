@@ -11,7 +11,7 @@ use board::BoardFault;
 use group::{BOARDS, GroupFault, Opening};
 use lines::{By, Plan};
 use quorum::{EitherRule, MAX_CREW, RuleFault};
-use vote::{MAX_CHARACTERS, Method};
+use vote::{Depth, MAX_CHARACTERS, Method};
 
 // The cover that the line's rule is to have. A rule of sessions, and no conversion: a method by itself has no cover.
 fn cover(method: Method) -> u16
@@ -45,9 +45,7 @@ pub(crate) fn check_sizes(plan: &Plan) -> Result<(), SessionFault>
     if !(1..=u16::from(MAX_CHARACTERS)).contains(&plan.characters) {
         return Err(SessionFault::Group(GroupFault::Opening(BoardFault::Characters)));
     }
-    if !(1..=2).contains(&plan.depth) {
-        return Err(SessionFault::Group(GroupFault::Opening(BoardFault::Depth)));
-    }
+    Depth::try_from(u32::from(plan.depth)).map_err(|_| GroupFault::Opening(BoardFault::Depth))?;
     Ok(())
 }
 

@@ -1,6 +1,6 @@
 use Rattle.std.proofs.Common.{None, sym, ◌∙◌, arith}
 use Rattle.std.proofs.lemmas.Grind.{common_steps}
-use Rattle.group.specs.declared.fault.GroupFault.TheVariants.{Outside, Listed, Idle, Unposted}
+use Rattle.group.specs.declared.fault.GroupFault.TheVariants.{Unposted}
 use Rattle.group.specs.Calls.{carrying}
 use Rattle.group.specs.Steps.{StandsAgainst}
 use Rattle.group.proofs.Called.{carry_refused, carry_stands, takes_there}
@@ -10,12 +10,12 @@ use Rattle.group.proofs.group.Group.carry.Goals.{then-lies-via-then-lies, then-l
 
 pub returns-then-not-has_both-clause-plays : goal.returns-then-not-has_both-clause-plays
 returns-then-not-has_both-clause-plays g c =
-    carry_refused c.args.self.now.terms c.args.self.now.records (g.met.R.FailureRule.lawful c.args.self.now.rule) c.args.to c.args.from c.args.kind c.args.value Outside
+    carry_refused _ _ (g.met.R.FailureRule.lawful c.args.self.now.rule) _ _ _ _ _
     (λ sent. grind (arith, common_steps))
 
 pub returns-then-lies-clause-plays : goal.returns-then-lies-clause-plays
 returns-then-lies-clause-plays g c =
-    carry_refused c.args.self.now.terms c.args.self.now.records (g.met.R.FailureRule.lawful c.args.self.now.rule) c.args.to c.args.from c.args.kind c.args.value Listed
+    carry_refused _ _ (g.met.R.FailureRule.lawful c.args.self.now.rule) _ _ _ _ _
     (λ sent. elim c.then-lies.branch [
       | then-lies-via-then-lies w ↦ grind (arith, common_steps, w.if-lies.ensures)
       | then-lies-via-else-lies+then-lies-2 w ↦ grind (arith, common_steps, w.if-lies.ensures, w.if-lies-2.ensures)
@@ -23,7 +23,7 @@ returns-then-lies-clause-plays g c =
 
 pub returns-then-not-begun-clause-plays : goal.returns-then-not-begun-clause-plays
 returns-then-not-begun-clause-plays g c =
-    carry_refused c.args.self.now.terms c.args.self.now.records (g.met.R.FailureRule.lawful c.args.self.now.rule) c.args.to c.args.from c.args.kind c.args.value Idle
+    carry_refused _ _ (g.met.R.FailureRule.lawful c.args.self.now.rule) _ _ _ _ _
     (λ sent. grind (arith, common_steps, c.if-lies.ensures, c.if-lies-2.ensures))
 
 pub returns-then-not-posted-clause-plays : goal.returns-then-not-posted-clause-plays

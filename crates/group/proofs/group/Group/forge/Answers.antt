@@ -1,6 +1,5 @@
 use Rattle.std.proofs.Common.{sym, ◌∙◌, arith}
 use Rattle.std.proofs.lemmas.Grind.{common_steps}
-use Rattle.group.specs.declared.fault.GroupFault.TheVariants.{Outside, Listed, Idle, Unlisted}
 use Rattle.group.specs.Calls.{forging}
 use Rattle.group.proofs.Called.{forge_refused, forge_stands, takes_there}
 use Rattle.group.proofs.Played.{accepted}
@@ -8,19 +7,19 @@ use Rattle.group.proofs.group.Group.forge.Goals as goal
 
 pub returns-then-not-has_both-clause-plays : goal.returns-then-not-has_both-clause-plays
 returns-then-not-has_both-clause-plays g c =
-    forge_refused c.args.self.now.terms c.args.self.now.records (g.met.R.FailureRule.lawful c.args.self.now.rule) c.args.to c.args.from c.args.bytes.now Outside (grind (arith, common_steps))
+    forge_refused _ _ (g.met.R.FailureRule.lawful c.args.self.now.rule) _ _ _ _ (grind (arith, common_steps))
 
 pub returns-then-lies-clause-plays : goal.returns-then-lies-clause-plays
 returns-then-lies-clause-plays g c =
-    forge_refused c.args.self.now.terms c.args.self.now.records (g.met.R.FailureRule.lawful c.args.self.now.rule) c.args.to c.args.from c.args.bytes.now Listed (grind (arith, common_steps, c.if-lies.ensures))
+    forge_refused _ _ (g.met.R.FailureRule.lawful c.args.self.now.rule) _ _ _ _ (grind (arith, common_steps, c.if-lies.ensures))
 
 pub returns-then-not-begun-clause-plays : goal.returns-then-not-begun-clause-plays
 returns-then-not-begun-clause-plays g c =
-    forge_refused c.args.self.now.terms c.args.self.now.records (g.met.R.FailureRule.lawful c.args.self.now.rule) c.args.to c.args.from c.args.bytes.now Idle (grind (arith, common_steps, c.if-lies.ensures))
+    forge_refused _ _ (g.met.R.FailureRule.lawful c.args.self.now.rule) _ _ _ _ (grind (arith, common_steps, c.if-lies.ensures))
 
 pub returns-then-not-lies-clause-plays : goal.returns-then-not-lies-clause-plays
 returns-then-not-lies-clause-plays g c =
-    forge_refused c.args.self.now.terms c.args.self.now.records (g.met.R.FailureRule.lawful c.args.self.now.rule) c.args.to c.args.from c.args.bytes.now Unlisted (grind (arith, common_steps, c.if-lies.ensures, c.if-not-lies.ensures))
+    forge_refused _ _ (g.met.R.FailureRule.lawful c.args.self.now.rule) _ _ _ _ (grind (arith, common_steps, c.if-lies.ensures, c.if-not-lies.ensures))
 
 pub returns-clause-plays : goal.returns-clause-plays
 returns-clause-plays g c =
