@@ -24,9 +24,10 @@ fn taken<R: FailureRule>(
     let Some(record) = slot else {
         return Err(GroupFault::Idle);
     };
+    // made here for speed, and not by the `?`: with a pair on the way each frame takes two or three instructions more
     let (taken, slip) = fitting
         .take(rule, record, port, bytes)
-        .map_err(|fault| (board, fault))?;
+        .map_err(|fault| GroupFault::from((board, fault)))?;
     written(taken.into(), slip).map_err(|fault| GroupFault::from((board, fault)))
 }
 
