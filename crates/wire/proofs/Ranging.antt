@@ -88,7 +88,3 @@ module _ {X : Type 0} where
         (one_more (is_within 1 max_kind w.kind) (value_place w) (fault 13 (kind_place w)) value r after_value
         (one_more (is_within 0 max_value w.value) (value_place w + length (field_bytes w.value comma)) (fault 13 (value_place w)) [] r (λ _. r) refl))))
         ∙ ap (λ p. and_then (cond (is_within 1 max_id w.group) (Ok p) (Err (fault 13 0))) after_change) (sym (zero-add (change_place w)))
-
--- of a word that a frame can carry nothing is looked for
-pub passed_at_once : (w : Word) → carried w ≡ true → ◌≡◌ {A = Result (Unit {0}) FrameFault} (Ok tt) (unless (range_fault w) (Ok tt))
-passed_at_once w e = ap (λ (o : Option FrameFault). unless o (Ok tt)) (sym (ranges_none w (carried_ranges w e)))

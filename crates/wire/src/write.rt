@@ -1,7 +1,7 @@
 // Writes a word as its frame, and leaves nothing behind it.
 ghost use Rattle.std.specs.Prelude.{◌≡◌, ℕ, ◌+◌, ◌≤◌, length, take, IfOk, Ok, slice_index};
 ghost use Rattle.wire.specs.Fields.{is_within};
-ghost use Rattle.wire.specs.Frames.{carried, frame_of, word_in};
+ghost use Rattle.wire.specs.Frames.{frame_of, word_in};
 ghost use Rattle.wire.specs.Writes.{put_front, range_fault, unless, place_behind, word_written, buffer_after};
 
 use crate::fault::FrameFault;
@@ -51,27 +51,11 @@ fn place_behind(number: u16, low: u16, high: u16, place: usize) -> Result<usize,
     Ok(place + width(number) + 1)
 }
 
-// Whether a frame can carry the word.
-#[tactic(auto, unfolding(crate::specs::Frames::carried))]
-fn is_carried(word: Word) -> bool
-    ensures { result ≡ carried word }
-{
-    (1..=MAX_ID).contains(&word.group)
-        && (1..=MAX_ID).contains(&word.change)
-        && (0..=MAX_SENDER).contains(&u16::from(word.sender))
-        && (1..=MAX_KIND).contains(&u16::from(word.kind))
-        && (0..=MAX_VALUE).contains(&u16::from(word.value))
-}
-
 // Refuses a word that no frame can carry: tells its first number that is out of its range, by the place where the field would begin.
-#[tactic(auto, using(crate::proofs::Ranging::by_places, crate::proofs::Ranging::passed_at_once))]
+#[tactic(auto, using(crate::proofs::Ranging::by_places))]
 pub(crate) fn check_ranges(word: Word) -> Result<(), FrameFault>
     ensures { result ≡ unless (range_fault word) (Ok tt) }
 {
-    // nearly every word is good, and the places are wanted only of one that is not
-    if is_carried(word) {
-        return Ok(());
-    }
     let change = place_behind(word.group, 1, MAX_ID, 0)?;
     let sender = place_behind(word.change, 1, MAX_ID, change)?;
     let kind = place_behind(word.sender as u16, 0, MAX_SENDER, sender)?;
