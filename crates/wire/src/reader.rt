@@ -23,6 +23,7 @@ impl<'a> Reader<'a> {
     // The number of the field that begins here, and the place after it, where the reader then is.
     // The range is two numbers: a `RangeInclusive` is not `Copy`, and says with a third field that it is used up.
     #[tactic(auto, using(crate::proofs::FieldRead::field_zero, crate::proofs::FieldRead::field_none))]
+    #[inline(always)]
     pub fn field(&mut self, low: u16, high: u16) -> Result<(u16, usize), FrameFault>
         ensures value { result ≡ field_at self.old.bytes.now self.old.place low high }
         ensures range { IfOk result (λ x. (low ≤ x.0) × (x.0 ≤ high)) }

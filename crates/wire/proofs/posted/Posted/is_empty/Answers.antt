@@ -1,5 +1,5 @@
 -- Each set is looked at. Assumes nothing.
-use Rattle.std.proofs.Common.{ℕ, ◌%◌, Bool, eqb, length, ◌∙◌, rules, tests, arith}
+use Rattle.std.proofs.Common.{ℕ, ◌%◌, eqb, ◌∙◌, rules, tests, arith}
 use Rattle.std.proofs.lemmas.Iterator.{YieldsList-from_slice}
 use Rattle.std.proofs.lemmas.Iterator.Search.{all_from_yields_List}
 use Rattle.wire.proofs.Counting.{none_posted_is}
