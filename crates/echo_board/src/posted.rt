@@ -33,7 +33,7 @@ impl EchoRecord {
         }
     }
 
-    // Whether the word of this kind and value is posted, whatever these numbers are.
+    // Whether the word of this kind and value is posted, whatever these numbers are: one may ask of any, and is answered.
     #[tactic(auto, using(crate::proofs::Fields::echo_posted, crate::proofs::Fields::word_posted))]
     pub fn has_posted(&self, kind: u8, value: u8) -> bool
         ensures { (S : Setting) (start : ℕ) (h : List Vote) → start ≤ max_characters → S.characters ≤ max_characters → self.now ≡ record_of S start h → result ≡ posts S start h kind value }

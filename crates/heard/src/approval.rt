@@ -11,7 +11,7 @@ use quorum::{FailureRule, ample};
 use vote::Voting;
 
 impl Heard {
-    // Whether the value is approved.
+    // Whether the value is approved. It stays a number that is asked to be one there is, as in `Tally::add`: a type of values would be made of a vote's number at each call.
     #[tactic(auto, using(crate::proofs::Tested::approved_made))]
     pub fn approved<R: FailureRule>(&self, voting: &Voting<R>, value: u8) -> bool
         requires { value ≤ max_characters }

@@ -76,6 +76,7 @@ impl PlainRecord {
     }
 
     // Adds the word's sender to those of its kind, a number as in a Vote. False where it is among them already, so that the word repeats another.
+    // That the numbers of the word are good is asked for, here and in `add_new`: a type of good words would be made anew at each call from the same three numbers.
     fn note(&mut self, vote: Vote) -> bool
         requires { (vote.sender < max_crew) × (vote.value ≤ max_value) }
         ensures fresh { result ≡ not (member vote.sender (of_kind vote.kind self.old).all) }
