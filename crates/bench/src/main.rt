@@ -17,9 +17,7 @@ fn continued<'a>(begun: &'a mut Gathered, part: &'a [u8]) -> &'a [u8] {
     if begun.line().is_empty() && part.ends_with(b"\n") {
         return part;
     }
-    for byte in part {
-        begun.add(*byte);
-    }
+    begun.add_all(part);
     begun.line()
 }
 

@@ -34,7 +34,7 @@ fn held_or<T, F: Fn() -> Option<T>>(held: Option<T>, due: bool, find: F) -> Opti
     }
 }
 
-// Whether a test of the votes of this kind is due: the vote is one of them, or with it a value may have become approved.
+// Whether a test of the votes of this kind, a number as in a Vote, is due: the vote is one of them, or with it a value may have become approved.
 fn is_due(approves: bool, vote: Vote, kind: u8) -> bool
     ensures { result ≡ (approves || vote.kind == kind) }
 {

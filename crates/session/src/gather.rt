@@ -1,4 +1,4 @@
-// The bytes of a line as they come in, with room for one more than a line can have, which is enough to see that a longer one cannot be read.
+// The bytes of a line as they come in, and of an answer as it goes out, with room for one more than a line can have, which is enough to see that a longer one cannot be read.
 ghost use Rattle.std.specs.Prelude.{◌≡◌, [], ◌∷◌, ◌++◌, ◌==◌, ◌≤◌, length, take, decimal};
 ghost use Rattle.fixed.specs.Items.{items_of};
 ghost use Rattle.session.specs.Gathering.{ReadsTheSame};
@@ -40,7 +40,7 @@ impl Gathered {
     }
 
     // The bytes, one after the other.
-    pub(crate) fn add_all(&mut self, bytes: &[u8])
+    pub fn add_all(&mut self, bytes: &[u8])
         ensures { items_of self.new.bytes ≡ take 122 (items_of self.old.bytes ++ bytes.now) }
     {
         // nearly all that is added has room, and goes in as a whole

@@ -25,7 +25,8 @@ pub struct Reply {
 }
 
 impl Reply {
-    // Puts the answer, as its line tells it, in the place of what was gathered, without the line feed.
+    // Puts the answer, as its line tells it, in the place of what was gathered, without the line feed. By hand and not by `write!`, for speed:
+    // part by part through a formatter it takes some 250 instructions more for each line of `bench`. `Display` writes the same bytes.
     fn put_text(&self, text: &mut Gathered)
         ensures value { items_of text.new.bytes ≡ reply_text self.now }
         ensures short { length (items_of text.new.bytes) < 122 }
