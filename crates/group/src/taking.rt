@@ -20,7 +20,7 @@ fn taken<R: FailureRule>(
     ensures { BoardTakes (R.meaning rule.now) fitting.now.fit port bytes.now slot.old slot.new result }
 {
     let board = fitting.fit.board;
-    // matched in place: through `as_mut` and `ok_or` the proof would have to follow the loan of the record
+    // matched in place: tried through `as_mut` and `ok_or`, where the proof would have to follow the loan of the record and did not close
     let Some(record) = slot else {
         return Err(GroupFault::Idle);
     };
