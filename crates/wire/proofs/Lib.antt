@@ -3,6 +3,7 @@ pub mod Runs
 pub mod FieldRead
 pub mod FieldText
 pub mod FrameText
+pub mod ShortFrames
 pub mod PutFront
 pub mod Widths
 pub mod Ranging

@@ -1,5 +1,5 @@
 // Reads a frame to the word it carries.
-ghost use Rattle.std.specs.Prelude.{◌≡◌, ℕ, ◌≤◌, true, List, IfOk, Ok};
+ghost use Rattle.std.specs.Prelude.{◌≡◌, ℕ, ◌≤◌, true, List, IfOk, IfSome, Ok};
 ghost use Rattle.wire.specs.Fields.{place_after};
 ghost use Rattle.wire.specs.Frames.{ended_field, frame_at, word_in, frame_of, carried};
 ghost use Rattle.wire.specs.Marked.{MarkedCasesHold};
@@ -49,6 +49,42 @@ impl<'a> Reader<'a> {
     }
 }
 
+// The digits of the largest kind and of the largest value.
+const LAST_KIND: u8 = b'0' + MAX_KIND as u8;
+
+const LAST_VALUE: u8 = b'0' + MAX_VALUE as u8;
+
+// The word of a frame whose five fields are one digit each and in range: nearly all frames are such, and this way takes some 75 instructions less
+// for each line of `bench`.
+#[tactic(auto, using(crate::proofs::ShortFrames::short_reads))]
+#[inline(always)]
+fn short_frame(bytes: &[u8]) -> Option<Word>
+    ensures { IfSome result (λ w. word_in bytes.now ≡ Ok w) }
+{
+    let [
+        group @ b'1'..=b'9',
+        b',',
+        change @ b'1'..=b'9',
+        b',',
+        sender @ b'0'..=b'9',
+        b',',
+        kind @ b'1'..=LAST_KIND,
+        b',',
+        value @ b'0'..=LAST_VALUE,
+        b'\n',
+    ] = bytes
+    else {
+        return None;
+    };
+    Some(Word {
+        group: (group - b'0') as u16,
+        change: (change - b'0') as u16,
+        sender: sender - b'0',
+        kind: kind - b'0',
+        value: value - b'0',
+    })
+}
+
 // The word that the bytes carry, which are one frame and nothing more.
 #[tactic(auto, using(crate::proofs::MarkedCases::marked_cases_hold), unfolding(crate::specs::Frames::word_in))]
 pub fn read_frame(bytes: &[u8]) -> Result<Word, FrameFault>
@@ -57,6 +93,9 @@ pub fn read_frame(bytes: &[u8]) -> Result<Word, FrameFault>
     ensures each_word_has_one_frame { IfOk result (λ w. (xs : List ℕ) → word_in xs ≡ Ok w → xs ≡ bytes.now) }
     ensures the_marked_cases_hold { MarkedCasesHold }
 {
+    if let Some(word) = short_frame(bytes) {
+        return Ok(word);
+    }
     let mut reader = Reader::new(bytes);
     let (word, end) = reader.frame()?;
     if end != bytes.len() {
