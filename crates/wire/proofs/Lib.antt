@@ -3,10 +3,10 @@ pub mod Runs
 pub mod FieldRead
 pub mod FieldText
 pub mod FrameText
-pub mod ShortFrames
 pub mod PutFront
 pub mod Widths
 pub mod Ranging
+pub mod ShortFrames
 pub mod InOrder
 pub mod PutAt
 pub mod Counting

@@ -52,6 +52,17 @@ put_behind n a b old buf part long room is put =
     ∙ sym (append_assoc a b (drop (length b) (drop n old)))
     ∙ ap (λ l. (a ++ b) ++ l) (drop-drop (length b) n old ∙ ap (λ k. drop k old) (omega (arith, length-append a b)))
 
+-- bytes at the front of a buffer, and zero bytes behind them
+module _ (bytes : List ℕ) where
+  zero_behind : (room k : ℕ) → length bytes ≤ k → get_or (zero_filled bytes room) k 0 ≡ 0
+  zero_behind room k le =
+      let zeros : List ℕ = replicate (room - length bytes) 0 in
+      get_or-append_right bytes zeros (length bytes) k 0 refl le
+      ∙ ⊎_elim
+      (λ lt. get_or-replicate (room - length bytes) (k - length bytes) 0 0 lt)
+      (λ ge. get_or_past zeros (k - length bytes) 0 (omega (arith, length-replicate {A = ℕ} (room - length bytes) 0)))
+      (cases_lt (k - length bytes) (room - length bytes))
+
 -- bytes at the front of a buffer, and a call that wrote to the rest of it
 module _ (n : ℕ) (bytes old buf part : List ℕ) (long : n ≡ length bytes) (room : length bytes ≤ length old) (is : buf ≡ put_front bytes old) where
   pub front_kept : (k : ℕ) → take n (put_mid n k buf part) ≡ bytes
@@ -61,7 +72,7 @@ module _ (n : ℕ) (bytes old buf part : List ℕ) (long : n ≡ length bytes) (
       ∙ take_at bytes (drop (length bytes) old) n (sym long)
 
   -- zero bytes
-  pub rest_filled : part ≡ replicate (length (take (length buf - n) (drop n buf))) 0 → put_mid n (length buf - n) buf part ≡ zero_filled bytes (length old)
+  rest_filled : part ≡ replicate (length (take (length buf - n) (drop n buf))) 0 → put_mid n (length buf - n) buf part ≡ zero_filled bytes (length old)
   rest_filled zeros =
       let same : length buf ≡ length old = ap length is ∙ length_put bytes old room in
       let none : post_of n (length buf - n) buf ≡ [] = nothing_behind n buf in
@@ -69,16 +80,8 @@ module _ (n : ℕ) (bytes old buf part : List ℕ) (long : n ≡ length bytes) (
       ∙ ap (λ l. bytes ++ l) (append-nil part ∙ zeros)
       ∙ ap (λ m. bytes ++ replicate m 0) (omega (arith, ap length (take_rest buf n), length-drop n buf))
 
--- bytes at the front of a buffer, and zero bytes behind them
-module _ (bytes : List ℕ) where
-  pub zero_behind : (room k : ℕ) → length bytes ≤ k → get_or (zero_filled bytes room) k 0 ≡ 0
-  zero_behind room k le =
-      let zeros : List ℕ = replicate (room - length bytes) 0 in
-      get_or-append_right bytes zeros (length bytes) k 0 refl le
-      ∙ ⊎_elim
-      (λ lt. get_or-replicate (room - length bytes) (k - length bytes) 0 0 lt)
-      (λ ge. get_or_past zeros (k - length bytes) 0 (omega (arith, length-replicate {A = ℕ} (room - length bytes) 0)))
-      (cases_lt (k - length bytes) (room - length bytes))
+  pub zero_from : part ≡ replicate (length (take (length buf - n) (drop n buf))) 0 → (k : ℕ) → n ≤ k → get_or (put_mid n (length buf - n) buf part) k 0 ≡ 0
+  zero_from zeros k le = ap (λ b. get_or b k 0) (rest_filled zeros) ∙ zero_behind bytes (length old) k (omega arith)
 
 -- how many bytes the parts have
 abbrev pub bytes_in : List (List ℕ) → ℕ

