@@ -1,4 +1,3 @@
-pub mod Build
 pub mod Read
 pub mod Grow
 pub mod Made
