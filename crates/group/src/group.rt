@@ -3,6 +3,7 @@ ghost use Rattle.std.specs.Prelude.{◌≡◌, ◌<◌, ◌≤◌, ◌&&◌, tru
 ghost use Rattle.group.specs.Promises.{TellsDecided};
 ghost use Rattle.group.specs.Steps.{TellsPosted};
 
+use crate::limits::SCRATCH;
 use crate::records::Records;
 use crate::terms::Terms;
 use board::Record;
@@ -14,6 +15,8 @@ pub struct Group<R: FailureRule> {
     pub(crate) rule: R,
     pub(crate) terms: Terms,
     pub(crate) records: Records,
+    // the frames of the words that the last accepted call has posted, by kind and then value, and zero bytes behind
+    pub(crate) scratch: [u8; SCRATCH],
 }
 
 impl<R: FailureRule> Group<R> {
@@ -22,6 +25,13 @@ impl<R: FailureRule> Group<R> {
         ensures { TellsDecided (R.meaning self.now.rule) self.now.terms self.now.records board result }
     {
         self.record(board)?.decided()
+    }
+
+    // What the last accepted call has written: the frames of the words that it posted, by kind and then value, and zero bytes behind.
+    pub fn scratch(&self) -> &[u8; SCRATCH]
+        ensures { result.now ≡ self.now.scratch }
+    {
+        &self.scratch
     }
 
     // The record of a board, if it has started.

@@ -1,5 +1,5 @@
 // A group is opened: its terms are settled, and no board has started.
-ghost use Rattle.std.specs.Prelude.{◌≡◌, ◌≤◌, [], Some, None, MatchResult};
+ghost use Rattle.std.specs.Prelude.{◌≡◌, ◌≤◌, [], Some, None, IfOk, MatchResult, replicate};
 ghost use Rattle.heard.specs.Shown.{table};
 ghost use Rattle.board.specs.Fitting.{Judged};
 ghost use Rattle.group.specs.Opening.{opening_fault, Settles, kept_start};
@@ -8,7 +8,7 @@ ghost use Rattle.group.specs.Sound.{all_characters};
 
 use crate::fault::GroupFault;
 use crate::group::Group;
-use crate::limits::BOARDS;
+use crate::limits::{BOARDS, SCRATCH};
 use crate::opening::Opening;
 use crate::records::Records;
 use crate::terms::Terms;
@@ -64,7 +64,8 @@ impl Opening {
 impl<R: FailureRule + Drop> Group<R> {
     // Opens a group, or tells what stands against it. The promise is not said by `Judged`, which would nest its parts, and callers take them one by one.
     pub fn open(rule: R, opening: &Opening) -> Result<Group<R>, GroupFault>
-        ensures { MatchResult result (λ g. (opening_fault (R.meaning rule) opening.now ≡ None) × (g.rule ≡ rule) × Settles (R.meaning rule) opening.now g.terms × Reached (R.meaning rule) g.terms g.records []) (λ e. opening_fault (R.meaning rule) opening.now ≡ Some e) }
+        ensures blank { IfOk result (λ g. g.scratch ≡ replicate 114 0) }
+        ensures opens { MatchResult result (λ g. (opening_fault (R.meaning rule) opening.now ≡ None) × (g.rule ≡ rule) × Settles (R.meaning rule) opening.now g.terms × Reached (R.meaning rule) g.terms g.records []) (λ e. opening_fault (R.meaning rule) opening.now ≡ Some e) }
     {
         let terms = opening.terms(&rule)?;
         Ok(Group {
@@ -73,6 +74,7 @@ impl<R: FailureRule + Drop> Group<R> {
             records: Records {
                 boards: [None; BOARDS],
             },
+            scratch: [0; SCRATCH],
         })
     }
 }

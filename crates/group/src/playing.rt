@@ -1,6 +1,6 @@
 // The calls on a group that is open: start, carry, forge.
-ghost use Rattle.std.specs.Prelude.{◌≡◌};
-ghost use Rattle.group.specs.Calls.{starting, carrying, forging};
+ghost use Rattle.std.specs.Prelude.{◌≡◌, IfErr};
+ghost use Rattle.group.specs.Calls.{starting, carrying, forging, left};
 ghost use Rattle.group.specs.Promises.{Plays};
 
 use crate::fault::GroupFault;
@@ -13,7 +13,8 @@ impl<R: FailureRule> Group<R> {
     // Starts a board; its slip has its first word.
     pub fn start(&mut self, board: u16) -> Result<Turn, GroupFault>
         ensures same { (self.new.rule ≡ self.old.rule) × (self.new.terms ≡ self.old.terms) }
-        ensures plays { Plays (R.meaning self.old.rule) self.old.terms (starting board) self.old.records self.new.records result }
+        ensures plays { Plays (R.meaning self.old.rule) self.old.terms (starting board) self.old.records self.new.records (left result self.new.scratch) }
+        ensures a_refused_call_leaves_the_scratch { IfErr result (λ e. self.new.scratch ≡ self.old.scratch) }
     {
         if board >= u16::from(self.rule.crew()) {
             return Err(GroupFault::Outside);
@@ -26,7 +27,10 @@ impl<R: FailureRule> Group<R> {
         }
         let fitting = self.terms.fitting(board).ok_or(GroupFault::Outside)?;
         let slip = fitting.first_slip();
-        let turn = written(Done::Started, slip).map_err(|fault| (board as u8, fault))?;
+        let turn = written(Done::Started, slip, &mut self.scratch).map_err(|fault| (
+            board as u8,
+            fault,
+        ))?;
         self.records.boards[board as usize] = Some(fitting.record());
         Ok(turn)
     }
@@ -34,7 +38,8 @@ impl<R: FailureRule> Group<R> {
     // Takes a word that `from` has posted to `to`, which counts it. Numbers of any size, so that a bad one gets its refusal.
     pub fn carry(&mut self, to: u16, from: u16, kind: u16, value: u16) -> Result<Turn, GroupFault>
         ensures same { (self.new.rule ≡ self.old.rule) × (self.new.terms ≡ self.old.terms) }
-        ensures plays { Plays (R.meaning self.old.rule) self.old.terms (carrying to from kind value) self.old.records self.new.records result }
+        ensures plays { Plays (R.meaning self.old.rule) self.old.terms (carrying to from kind value) self.old.records self.new.records (left result self.new.scratch) }
+        ensures a_refused_call_leaves_the_scratch { IfErr result (λ e. self.new.scratch ≡ self.old.scratch) }
     {
         if !self.has_both(to, from) {
             return Err(GroupFault::Outside);
@@ -61,7 +66,8 @@ impl<R: FailureRule> Group<R> {
     // Takes bytes, whatever they are, to `to` on the port of a listed board.
     pub fn forge(&mut self, to: u16, from: u16, bytes: &[u8]) -> Result<Turn, GroupFault>
         ensures same { (self.new.rule ≡ self.old.rule) × (self.new.terms ≡ self.old.terms) }
-        ensures plays { Plays (R.meaning self.old.rule) self.old.terms (forging to from bytes.now) self.old.records self.new.records result }
+        ensures plays { Plays (R.meaning self.old.rule) self.old.terms (forging to from bytes.now) self.old.records self.new.records (left result self.new.scratch) }
+        ensures a_refused_call_leaves_the_scratch { IfErr result (λ e. self.new.scratch ≡ self.old.scratch) }
     {
         if !self.has_both(to, from) {
             return Err(GroupFault::Outside);

@@ -1,9 +1,11 @@
 // A board of the group takes a frame.
-ghost use Rattle.std.specs.Prelude.{◌≡◌};
+ghost use Rattle.std.specs.Prelude.{◌≡◌, IfErr};
+ghost use Rattle.group.specs.Calls.{left};
 ghost use Rattle.group.specs.Steps.{BoardTakes, Brings, Takes};
 
 use crate::fault::GroupFault;
 use crate::group::Group;
+use crate::limits::SCRATCH;
 use crate::turn::{Turn, written};
 use board::{Fitting, Record};
 use quorum::FailureRule;
@@ -16,8 +18,10 @@ fn taken<R: FailureRule>(
     slot: &mut Option<Record>,
     port: u8,
     bytes: &[u8],
+    scratch: &mut [u8; SCRATCH],
 ) -> Result<Turn, GroupFault>
-    ensures { BoardTakes (R.meaning rule.now) fitting.now.fit port bytes.now slot.old slot.new result }
+    ensures takes { BoardTakes (R.meaning rule.now) fitting.now.fit port bytes.now slot.old slot.new (left result scratch.new) }
+    ensures kept { IfErr result (λ e. scratch.new ≡ scratch.old) }
 {
     let board = fitting.fit.board;
     // matched in place: tried through `as_mut` and `ok_or`, where the proof would have to follow the loan of the record and did not close
@@ -28,7 +32,7 @@ fn taken<R: FailureRule>(
     let (taken, slip) = fitting
         .take(rule, record, port, bytes)
         .map_err(|fault| GroupFault::from((board, fault)))?;
-    written(taken.into(), slip).map_err(|fault| GroupFault::from((board, fault)))
+    written(taken.into(), slip, scratch).map_err(|fault| GroupFault::from((board, fault)))
 }
 
 // `same` stays spelled out at each call that changes records: two equations tell plainer than the name of a definition what is kept.
@@ -36,7 +40,8 @@ impl<R: FailureRule> Group<R> {
     // Board `to`, which has started, takes the bytes on the port.
     pub(crate) fn take(&mut self, to: u16, port: u8, bytes: &[u8]) -> Result<Turn, GroupFault>
         ensures same { (self.new.rule ≡ self.old.rule) × (self.new.terms ≡ self.old.terms) }
-        ensures takes { Takes (R.meaning self.old.rule) self.old.terms to port bytes.now self.old.records self.new.records result }
+        ensures takes { Takes (R.meaning self.old.rule) self.old.terms to port bytes.now self.old.records self.new.records (left result self.new.scratch) }
+        ensures kept { IfErr result (λ e. self.new.scratch ≡ self.old.scratch) }
     {
         let fitting = self.terms.fitting(to).ok_or(GroupFault::Outside)?;
         taken(
@@ -45,6 +50,7 @@ impl<R: FailureRule> Group<R> {
             &mut self.records.boards[to as usize],
             port,
             bytes,
+            &mut self.scratch,
         )
     }
 
@@ -52,7 +58,8 @@ impl<R: FailureRule> Group<R> {
     #[tactic(auto, using(crate::proofs::Bringing::written_is))]
     pub(crate) fn bring(&mut self, to: u16, word: Word) -> Result<Turn, GroupFault>
         ensures same { (self.new.rule ≡ self.old.rule) × (self.new.terms ≡ self.old.terms) }
-        ensures brings { Brings (R.meaning self.old.rule) self.old.terms to word self.old.records self.new.records result }
+        ensures brings { Brings (R.meaning self.old.rule) self.old.terms to word self.old.records self.new.records (left result self.new.scratch) }
+        ensures kept { IfErr result (λ e. self.new.scratch ≡ self.old.scratch) }
     {
         let mut frame = [0; FRAME_MAX];
         let len = write_word(word, &mut frame).map_err(|fault| (word.sender, fault))?;

@@ -1,7 +1,7 @@
 // What an accepted call answers.
-ghost use Rattle.std.specs.Prelude.{◌≡◌, ◌*◌, ◌≤◌, true, length, is_ok, IfOk};
+ghost use Rattle.std.specs.Prelude.{◌≡◌, ◌*◌, ◌≤◌, true, length, is_ok, IfOk, IfErr};
 ghost use Rattle.wire.specs.Slips.{words_of};
-ghost use Rattle.group.specs.Calls.{done_of, turn_of};
+ghost use Rattle.group.specs.Calls.{done_of, outcome_of};
 
 use crate::limits::SCRATCH;
 use board::Taken;
@@ -29,38 +29,33 @@ impl From<Taken> for Done {
     }
 }
 
-// The scratch stays an array with the words counted beside: an answer is handed on by value, with no heap, and its 114 bytes are promised.
+// The frames of the words lie in the group's scratch, not here: 114 bytes more in each answer would be copied as it is handed on.
 #[derive(Clone, Copy)]
 pub struct Turn {
     pub done: Done,
     // how many words the call posted
     pub words: usize,
-    // their frames, by kind and then value, and zero bytes behind
-    pub scratch: [u8; SCRATCH],
 }
 
 // Writes the slip into the scratch. A slip of more words than one counted word can post would not fit; then it is written elsewhere, and refused.
 #[inline(always)]
-pub(crate) fn written(done: Done, mut slip: Slip) -> Result<Turn, FrameFault>
-    ensures value { IfOk result (λ t. t ≡ turn_of done slip.posted) }
+pub(crate) fn written(
+    done: Done,
+    mut slip: Slip,
+    scratch: &mut [u8; SCRATCH],
+) -> Result<Turn, FrameFault>
+    ensures value { IfOk result (λ t. record { turn = t; scratch = scratch.new } ≡ outcome_of done slip.posted) }
+    ensures kept { IfErr result (λ e. scratch.new ≡ scratch.old) }
     ensures fits { length (words_of slip.posted) * 19 ≤ 114 → is_ok result ≡ true }
 {
     // most calls post nothing, and then there is nothing to count and to write
     if slip.is_empty() {
-        return Ok(Turn {
-            done,
-            words: 0,
-            scratch: [0; SCRATCH],
-        });
+        *scratch = [0; SCRATCH];
+        return Ok(Turn { done, words: 0 });
     }
     let words = slip.count();
-    let mut scratch = [0; SCRATCH];
-    match slip.write(&mut scratch) {
-        Ok(_) => Ok(Turn {
-            done,
-            words,
-            scratch,
-        }),
+    match slip.write(&mut scratch[..]) {
+        Ok(_) => Ok(Turn { done, words }),
         Err(fault) => {
             let mut room = [0; SLIP_MAX];
             let Ok(_) = slip.write(&mut room) else {

@@ -7,7 +7,7 @@ use Rattle.lines.specs.Calls.{Opening}
 use Rattle.lines.specs.Lines.{call_in}
 use Rattle.group.specs.declared.group.Group.{Group}
 use Rattle.group.specs.declared.opening.Opening as asked
-use Rattle.group.specs.Calls.{Call, answered}
+use Rattle.group.specs.Calls.{Call, left, answered}
 use Rattle.group.specs.Opening.{Settles}
 use Rattle.group.specs.declared.fault.GroupFault.{GroupFault}
 use Rattle.group.specs.declared.turn.Turn.{Turn}
@@ -62,7 +62,7 @@ Calls g x i h r =
 abbrev pub MakesCall : (Group EitherRule → Result Turn GroupFault → Group EitherRule → Type 0) → Call → Type 0
 MakesCall step x =
     (g h : Group EitherRule) (r : Result Turn GroupFault) → step g r h
-    → (h.rule ≡ g.rule) × (h.terms ≡ g.terms) × Plays (either_rule g.rule) g.terms x g.records h.records r
+    → (h.rule ≡ g.rule) × (h.terms ≡ g.terms) × Plays (either_rule g.rule) g.terms x g.records h.records (left r h.scratch)
 
 -- A call x on the group that is open, if one is, where board i is named first, leads from g to h and answers r, whatever has led to g.
 abbrev pub PlaysOn : Option (Group EitherRule) → Call → ℕ → Option (Group EitherRule) → Result Played SessionFault → Type 0

@@ -22,13 +22,13 @@ returns-in_err-open c =
     let p = err_from_is_err_and c.from_residual-in_err-open.result c.from_residual-in_err-open.ensures.1 in
     rw (p.1, p.2)
     (group_asked (opening_of c.args.plan.now) c.in_ok-check_sizes.ensures c.in_ok-rule.ensures.0 c.requires c.asked-opening.result c.asked-opening.ensures
-    ∙ ap (option_map OfGroup) (rw c.in_ok-rule.ensures.1 at c.in_err-open.ensures))
+    ∙ ap (option_map OfGroup) (rw c.in_ok-rule.ensures.1 at c.in_err-open.ensures.opens))
 
 pub returns : goal.returns
 returns c =
     let o = opening_of c.args.plan.now in
     let a = c.asked-opening.result in
-    let made = rw c.in_ok-rule.ensures.1 at c.in_ok-open.ensures in (
+    let made = rw c.in_ok-rule.ensures.1 at c.in_ok-open.ensures.opens in (
       group_asked o c.in_ok-check_sizes.ensures c.in_ok-rule.ensures.0 c.requires a c.asked-opening.ensures ∙ ap (option_map OfGroup) made.0,
       record {
         rule = ap either_rule made.1 ∙ c.in_ok-rule.ensures.1;

@@ -2,8 +2,8 @@ use Rattle.std.proofs.Common.{refl}
 use Rattle.group.proofs.Accepted.{opened, first_records}
 use Rattle.group.proofs.group.Group.open.Goals as goal
 
-pub returns : goal.returns
-returns g c =
+pub returns-clause-opens : goal.returns-clause-opens
+returns-clause-opens g c =
     let R = g.R.FailureRule.meaning c.args.rule in
     let t = c.in_ok-terms.terms in
     let k = c.in_ok-terms.ensures in
