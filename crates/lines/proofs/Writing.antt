@@ -113,15 +113,15 @@ module _ (line : List ℕ) where
     by_letter : Writes line (call_by (get_or line 0 0) line)
     by_letter =
         let b = get_or line 0 0 in
-        letter_writes b open_by_count_letter _ _ (eqb b open_by_count_letter) refl (λ g. opened_writes open_by_count_letter g open_by_count (λ m vs h.
-        if_writes (eqb (length vs) (5 + get_or vs 1 0)) _ (λ n. h _ (led_by_five vs (omega (arith, eqb-true (length vs) (5 + get_or vs 1 0) n))))))
-        (letter_writes b open_by_sets_letter _ _ (eqb b open_by_sets_letter) refl (λ g. opened_writes open_by_sets_letter g open_by_sets (λ m vs h.
-        if_writes (eqb (length vs) (5 + get_or vs 2 0 + get_or vs 1 0)) _ (λ n. h _ (sets_lead vs (eqb-true (length vs) (5 + get_or vs 2 0 + get_or vs 1 0) n)))))
-        (letter_writes b start_letter _ _ (eqb b start_letter) refl (λ g. read_writes (numbers_in (body line)) start_with (λ vs e.
+        letter_writes b start_letter _ _ (eqb b start_letter) refl (λ g. read_writes (numbers_in (body line)) start_with (λ vs e.
         if_writes (eqb (length vs) 1) _ (λ n. numbered vs _ e (one_number vs (eqb-true _ _ n)) start_letter g)))
         (letter_writes b carry_letter _ _ (eqb b carry_letter) refl (λ g. read_writes (numbers_in (body line)) carry_with (λ vs e.
         if_writes (eqb (length vs) 4) _ (λ n. numbered vs _ e (four_numbers vs (eqb-true _ _ n)) carry_letter g)))
-        (letter_writes b forge_letter _ _ (eqb b forge_letter) refl forge_writes tt))))
+        (letter_writes b forge_letter _ _ (eqb b forge_letter) refl forge_writes
+        (letter_writes b open_by_count_letter _ _ (eqb b open_by_count_letter) refl (λ g. opened_writes open_by_count_letter g open_by_count (λ m vs h.
+        if_writes (eqb (length vs) (5 + get_or vs 1 0)) _ (λ n. h _ (led_by_five vs (omega (arith, eqb-true (length vs) (5 + get_or vs 1 0) n))))))
+        (letter_writes b open_by_sets_letter _ _ (eqb b open_by_sets_letter) refl (λ g. opened_writes open_by_sets_letter g open_by_sets (λ m vs h.
+        if_writes (eqb (length vs) (5 + get_or vs 2 0 + get_or vs 1 0)) _ (λ n. h _ (sets_lead vs (eqb-true (length vs) (5 + get_or vs 2 0 + get_or vs 1 0) n))))) tt))))
 
   in_writes : Writes line (call_in line)
   unfolding call_in

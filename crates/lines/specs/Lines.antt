@@ -76,14 +76,22 @@ whole line = lettered line && nat_lt 2 (length line) && nat_le (length line) max
 abbrev pub body : List ℕ → List ℕ
 body line = take (length line - 1 - 2) (drop 2 line)
 
--- by the letter; the line feed belongs to what is forged
+-- by the letter, what a line that opens a group writes
+abbrev pub opening_by : ℕ → List ℕ → Call
+opening_by letter line =
+    cond (letter == open_by_count_letter) (opened_in open_by_count (body line))
+    (cond (letter == open_by_sets_letter) (opened_in open_by_sets (body line)) unreadable)
+
+-- the call that a line writes, if it opens a group
+unfoldable pub opening_in : List ℕ → Call
+opening_in line = cond (whole line) (opening_by (slice_index line 0) line) unreadable
+
+-- by the letter; the line feed belongs to what is forged, and a line with another letter opens a group or cannot be read
 abbrev pub call_by : ℕ → List ℕ → Call
 call_by letter line =
-    cond (letter == open_by_count_letter) (opened_in open_by_count (body line))
-    (cond (letter == open_by_sets_letter) (opened_in open_by_sets (body line))
-    (cond (letter == start_letter) (readable (numbers_in (body line)) start_with)
+    cond (letter == start_letter) (readable (numbers_in (body line)) start_with)
     (cond (letter == carry_letter) (readable (numbers_in (body line)) carry_with)
-    (cond (letter == forge_letter) (forged_in (drop 2 line)) unreadable))))
+    (cond (letter == forge_letter) (forged_in (drop 2 line)) (opening_by letter line)))
 
 unfoldable pub call_in : List ℕ → Call
 call_in line = cond (whole line) (call_by (slice_index line 0) line) unreadable

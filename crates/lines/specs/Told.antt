@@ -9,7 +9,7 @@ use Rattle.lines.specs.declared.plan.By.TheVariants.{Count, Sets}
 use Rattle.lines.specs.declared.plan.Plan.{Plan}
 use Rattle.fixed.specs.Items.{items_of}
 use Rattle.lines.specs.Calls.{Failing, by_count, by_sets, Opening, Call, unreadable, opens, starts_board, carries, forges}
-use Rattle.lines.specs.Lines.{opening_with}
+use Rattle.lines.specs.Lines.{opening_with, opening_in}
 
 -- how many listed sets lead the numbers of a plan
 abbrev pub sets_many : By → ℕ
@@ -47,18 +47,28 @@ abbrev pub head_call : (Method → List ℕ → Call) → Option Head → Call
 head_call call None = unreadable
 head_call call (Some h) = call h.method (items_of h.numbers)
 
--- what is forged is told by the place in the line at which it begins
+-- the call of a plan, if one was read
+abbrev pub plan_call : Option Plan → Call
+plan_call None = unreadable
+plan_call (Some p) = opens (opening_of p)
+
+-- what an opening asks for is left in the line, and what is forged is told by the place in the line at which it begins
 abbrev pub call_of : List ℕ → Option Line → Call
 call_of line None = unreadable
-call_of line (Some (Open p)) = opens (opening_of p)
+call_of line (Some Open) = opening_in line
 call_of line (Some (Start i)) = starts_board i
 call_of line (Some (Carry to from kind value)) = carries to from kind value
 call_of line (Some (Forge to from place)) = forges to from (drop place line)
 
--- a plan has as many sets as it says and one starting character for each board, and a place is within the line
+-- a plan has as many sets as it says and one starting character for each board
+abbrev pub PlanWithin : Option Plan → Type 0
+PlanWithin None = Unit {0}
+PlanWithin (Some p) = (length (sets_of p) ≡ sets_many p.by) × (length (starts_of p) ≡ p.crew)
+
+-- a place is within the line
 abbrev pub Within : List ℕ → Option Line → Type 0
 Within line None = Unit {0}
-Within line (Some (Open p)) = (length (sets_of p) ≡ sets_many p.by) × (length (starts_of p) ≡ p.crew)
+Within line (Some Open) = Unit {0}
 Within line (Some (Start i)) = Unit {0}
 Within line (Some (Carry to from kind value)) = Unit {0}
 Within line (Some (Forge to from place)) = place ≤ length line

@@ -1,9 +1,9 @@
 // What a line asks for.
-use crate::plan::Plan;
-
 #[derive(Clone, Copy)]
 pub enum Line {
-    Open(Plan),
+    // The line opens a group, if `read_opening` can read the rest of it. No plan, for speed: its 144 bytes would be filled and moved with what is
+    // read from any line.
+    Open,
     // The board.
     Start(u16),
     // To, from, kind, value.

@@ -7,31 +7,20 @@ ghost use Rattle.lines.specs.Texts.{Writes};
 ghost use Rattle.lines.specs.Told.{call_of, Within};
 
 use crate::forge::forge;
-use crate::head::read_head;
 use crate::line::Line;
 use crate::numeric::{carry, start};
-use crate::opening::open;
-use crate::plan::By;
+use crate::whole::whole;
 
-// The most bytes that a line has, with its line feed.
-const MAX_LINE: usize = 121;
-
-// By its letter, the call that the bytes write, if a comma follows the letter and a line feed is the last of them.
+// By its letter, the call that the bytes write, if they are a whole line; what an opening asks for is left to `read_opening`.
 // A match on the letter: what follows has another form for each.
-#[tactic(auto, unfolding(crate::specs::Lines::call_in))]
+#[tactic(auto, unfolding(crate::specs::Lines::call_in, crate::specs::Lines::opening_in))]
 fn read(line: &[u8]) -> Option<Line>
     ensures call { call_of line.now result ≡ call_in line.now }
     ensures within { Within line.now result }
 {
-    let [letter, b',', body @ .., b'\n'] = line else {
-        return None;
-    };
-    if line.len() > MAX_LINE {
-        return None;
-    }
+    let (letter, body) = whole(line)?;
     match letter {
-        b'o' => open(&read_head(body)?, By::Count),
-        b'g' => open(&read_head(body)?, By::Sets),
+        b'o' | b'g' => Some(Line::Open),
         b's' => start(body),
         b'c' => carry(body),
         b'f' => forge(line),

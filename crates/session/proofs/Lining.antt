@@ -1,5 +1,5 @@
 -- From a call to the line that writes it, and from what lines have led to to the promise. Assumes nothing.
-use Rattle.std.proofs.Common.{◌≡◌, ℕ, List, Some, None, Option, Result, ap, ap₂, ◌∙◌, subst}
+use Rattle.std.proofs.Common.{◌≡◌, ℕ, List, Some, None, Option, Result, ap₂, subst}
 use Rattle.quorum.specs.declared.either.EitherRule.{EitherRule}
 use Rattle.quorum.specs.declared.either.EitherRule.TheVariants.{Count, Listed}
 use Rattle.quorum.specs.Good.{count_good, listed_good}
@@ -12,20 +12,25 @@ use Rattle.group.specs.declared.group.Group.{Group}
 use Rattle.group.proofs.Promised.{promised}
 use Rattle.session.specs.declared.fault.SessionFault.{SessionFault}
 use Rattle.session.specs.declared.reply.Played.{Played}
-use Rattle.session.specs.Standing.{Standing, nothing_open, stands_open, stands_with, stands_after}
+use Rattle.session.specs.Standing.{Standing, nothing_open, stands_open, stands_after}
 use Rattle.session.specs.declared.letter.Letter.{Letter}
+use Rattle.session.specs.declared.reply.Reply.{Reply}
 use Rattle.session.specs.Letters.{letter_of}
-use Rattle.session.specs.Replies.{reply_of}
-use Rattle.session.specs.Shown.{Shows, Led, PlaysCall, PlaysLine, Promised, KeepsThePromise}
+use Rattle.session.specs.Shown.{Shows, Led, PlaysCall, PlaysAs, PlaysLine, Promised, KeepsThePromise}
 
-pub line_plays : (g h : Option (Group EitherRule)) (line : List ℕ) (x : lines.Call) (letter : Letter) (r : Result Played SessionFault)
-    → x ≡ call_in line → letter ≡ letter_of x → PlaysCall g x h r → PlaysLine g line h (record { letter = letter; answer = r })
+-- what a call answers, with its letter, is the reply
+pub replied : (g h : Option (Group EitherRule)) (x : lines.Call) (letter : Letter) (r : Result Played SessionFault)
+    → letter ≡ letter_of x → PlaysCall g x h r → PlaysAs g x h (record { letter = letter; answer = r })
+replied g h x letter r same plays s shows =
+    let p = plays s shows in (p.0, ap₂ (λ (l : Letter) (a : Result Played SessionFault). record { letter = l; answer = a }) same p.1)
+
+pub same_call : (g h : Option (Group EitherRule)) (x y : lines.Call) (r : Reply) → x ≡ y → PlaysAs g x h r → PlaysAs g y h r
+same_call g h x y r is plays = subst (λ (z : lines.Call). PlaysAs g z h r) is plays
+
+-- what the call does that a line writes, the line does
+pub line_plays : (g h : Option (Group EitherRule)) (line : List ℕ) (x : lines.Call) (r : Reply) → x ≡ call_in line → PlaysAs g x h r → PlaysLine g line h r
 unfolding stands_after
-line_plays g h line x letter r is same plays ls led =
-    let p = plays (stands_after ls) led in (
-      subst (λ (y : lines.Call). Shows h (stands_with (stands_after ls) y)) is p.0,
-      ap₂ (λ (l : Letter) (a : Result Played SessionFault). record { letter = l; answer = a }) same p.1 ∙ ap (reply_of g (stands_after ls)) is,
-    )
+line_plays g h line x r is plays ls led = same_call g h x (call_in line) r is plays (stands_after ls) led
 
 lawful : (x : EitherRule) → Lawful (either_rule x)
 lawful (Count x) = count_good x.crew x.cover x.f x.good

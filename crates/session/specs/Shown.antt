@@ -72,6 +72,10 @@ PlaysOn g x i h r = (s : Standing) → Shows g s → Shows h (called_on s x) × 
 abbrev pub PlaysCall : Option (Group EitherRule) → lines.Call → Option (Group EitherRule) → Result Played SessionFault → Type 0
 PlaysCall g x h r = (s : Standing) → Shows g s → Shows h (stands_with s x) × (r ≡ answer_of g s x)
 
+-- The call that a line writes leads from g to h, and the line is answered r, whatever has led to g.
+abbrev pub PlaysAs : Option (Group EitherRule) → lines.Call → Option (Group EitherRule) → Reply → Type 0
+PlaysAs g x h r = (s : Standing) → Shows g s → Shows h (stands_with s x) × (r ≡ reply_of g s x)
+
 -- The line leads from g to h and is answered r: whatever lines have led to g, with this one they lead to h, and r is the reply that is defined.
 abbrev pub PlaysLine : Option (Group EitherRule) → List ℕ → Option (Group EitherRule) → Reply → Type 0
 PlaysLine g line h r = (ls : List (List ℕ)) → LedBy g ls → LedBy h (line ∷ ls) × (r ≡ reply_of g (stands_after ls) (call_in line))

@@ -9,6 +9,7 @@ mod gather;
 mod letter;
 mod opened;
 mod opening;
+mod play_opening;
 mod played;
 mod reply;
 mod session;

@@ -1,9 +1,9 @@
 // A line is read, and its call made.
 ghost use Rattle.session.specs.Shown.{PlaysLine};
 
-use crate::calls::{on, open};
-use crate::fault::SessionFault;
+use crate::calls::on;
 use crate::letter::Letter;
+use crate::play_opening::play_opening;
 use crate::reply::Reply;
 use group::Group;
 use lines::{Line, read_line};
@@ -13,14 +13,8 @@ pub(crate) fn play(group: &mut Option<Group<EitherRule>>, line: &[u8]) -> Reply
     ensures { PlaysLine group.old line.now group.new result }
 {
     match read_line(line) {
-        None => Reply {
-            letter: Letter::Unreadable,
-            answer: Err(SessionFault::Unreadable),
-        },
-        Some(Line::Open(plan)) => Reply {
-            letter: Letter::from(plan.by),
-            answer: open(group, &plan),
-        },
+        None => Reply::UNREADABLE,
+        Some(Line::Open) => play_opening(group, line),
         Some(Line::Start(board)) => Reply {
             letter: Letter::Start,
             answer: on(group, board, |g| g.start(board)),

@@ -25,6 +25,12 @@ pub struct Reply {
 }
 
 impl Reply {
+    // No call can be read from the line.
+    pub(crate) const UNREADABLE: Reply = Reply {
+        letter: Letter::Unreadable,
+        answer: Err(SessionFault::Unreadable),
+    };
+
     // Puts the answer, as its line tells it, in the place of what was gathered, without the line feed. By hand and not by `write!`, for speed:
     // part by part through a formatter it takes some 250 instructions more for each line of `bench`. `Display` writes the same bytes.
     fn put_text(&self, text: &mut Gathered)

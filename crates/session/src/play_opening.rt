@@ -1,0 +1,25 @@
+// A line that opens a group is read to its end, and the group opened.
+ghost use Rattle.lines.specs.Lines.{opening_in};
+ghost use Rattle.session.specs.Shown.{PlaysAs};
+
+use crate::calls::open;
+use crate::letter::Letter;
+use crate::reply::Reply;
+use group::Group;
+use lines::read_opening;
+use quorum::EitherRule;
+
+// What the line does, if it opens a group. Never inlined, for speed: the plan and the new group are large, and as locals of `play` they would be
+// filled and moved at every line.
+#[inline(never)]
+pub(crate) fn play_opening(group: &mut Option<Group<EitherRule>>, line: &[u8]) -> Reply
+    ensures { PlaysAs group.old (opening_in line.now) group.new result }
+{
+    match read_opening(line) {
+        None => Reply::UNREADABLE,
+        Some(plan) => Reply {
+            letter: Letter::from(plan.by),
+            answer: open(group, &plan),
+        },
+    }
+}
