@@ -77,4 +77,17 @@ impl<R: FailureRule + Drop> Group<R> {
             scratch: [0; SCRATCH],
         })
     }
+
+    // Opens a group in the place of this one, or tells what stands against it, and leaves this one as it is. A new group would be moved there
+    // step by step, with its sixteen records.
+    pub fn reopen(&mut self, rule: R, opening: &Opening) -> Result<(), GroupFault>
+        ensures blank { IfOk result (λ done. self.new.scratch ≡ replicate 114 0) }
+        ensures opens { MatchResult result (λ done. (opening_fault (R.meaning rule) opening.now ≡ None) × (self.new.rule ≡ rule) × Settles (R.meaning rule) opening.now self.new.terms × Reached (R.meaning rule) self.new.terms self.new.records []) (λ e. (opening_fault (R.meaning rule) opening.now ≡ Some e) × (self.new ≡ self.old)) }
+    {
+        self.terms = opening.terms(&rule)?;
+        self.rule = rule;
+        self.records.boards.fill(None);
+        self.scratch = [0; SCRATCH];
+        Ok(())
+    }
 }

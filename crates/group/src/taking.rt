@@ -56,6 +56,7 @@ impl<R: FailureRule> Group<R> {
 
     // Writes the word as a frame, which board `to`, which has started, takes on the sender's port.
     #[tactic(auto, using(crate::proofs::Bringing::written_is))]
+    #[inline(always)]
     pub(crate) fn bring(&mut self, to: u16, word: Word) -> Result<Turn, GroupFault>
         ensures same { (self.new.rule ≡ self.old.rule) × (self.new.terms ≡ self.old.terms) }
         ensures brings { Brings (R.meaning self.old.rule) self.old.terms to word self.old.records self.new.records (left result self.new.scratch) }
