@@ -1,5 +1,5 @@
 -- What it says that something, or nothing, stands against the opening of a line. Assumes nothing.
-use Rattle.std.proofs.Common.{◌≡◌, ℕ, ◌<◌, Bool, true, false, cond, not, ◌&&◌, List, length, get_or, take, Some, None, Option, sym, refl, ap, ap₂, ◌∙◌, subst}
+use Rattle.std.proofs.Common.{◌≡◌, ℕ, ◌<◌, Bool, true, false, cond, not, ◌&&◌, List, [], length, get_or, take, Some, None, Option, sym, refl, ap, ap₂, ◌∙◌, subst}
 use Rattle.std.specs.Option.{option_map}
 use Rattle.std.proofs.lemmas.Bool.{cond-true}
 use Rattle.std.proofs.lemmas.List.{get_or-take}
@@ -9,6 +9,8 @@ use Rattle.vote.proofs.Options.{holds_none}
 use Rattle.wire.specs.Fields.{is_within}
 use Rattle.quorum.specs.declared.fault.RuleFault.{RuleFault}
 use Rattle.quorum.specs.declared.fault.RuleFault.TheVariants.{Sets, WholeCrew}
+use Rattle.quorum.specs.declared.either.EitherRule.{EitherRule}
+use Rattle.quorum.specs.Meaning.{either_rule}
 use Rattle.quorum.specs.Limits.{crew_fits, cover_fits}
 use Rattle.quorum.specs.Listing.{sets_fit, held}
 use Rattle.board.specs.declared.fault.BoardFault.TheVariants.{Start}
@@ -17,13 +19,15 @@ use Rattle.board.specs.Fitting.{echo_under_two}
 use Rattle.lines.specs.Calls.{Failing, by_count, by_sets, Opening}
 use Rattle.group.specs.declared.fault.GroupFault.TheVariants.{Opening as Against, Family}
 use Rattle.group.specs.declared.opening.Opening as asked
+use Rattle.group.specs.declared.group.Group.{Group}
 use Rattle.group.specs.declared.terms.Terms.{Terms}
 use Rattle.group.specs.Opening as group
+use Rattle.group.specs.Promises.{Reached}
 use Rattle.group.specs.Sound.{all_characters}
 use Rattle.session.specs.declared.fault.SessionFault.{SessionFault}
 use Rattle.session.specs.declared.fault.SessionFault.TheVariants.{Rule as OfRule, Group as OfGroup}
 use Rattle.session.specs.Opening.{cover_of, failing_rule, sets_good, crew_spared, rule_of, opening_fault}
-use Rattle.session.specs.Shown.{asked_of}
+use Rattle.session.specs.Shown.{asked_of, ShowsOpen}
 use Rattle.session.specs.Asked.{failing_fault, rule_fault, sizes_fault, Asks}
 
 -- a fault that is told before more is asked
@@ -162,3 +166,12 @@ module _ (o : Opening) where
             let m : i < length o.starts = subst (λ (n : ℕ). i < n) (rule_crew o ∙ sym len) l in
             s.starts i l ∙ (sym (get_or-take (length o.starts) a.starts i 0 m) ∙ ap (λ (xs : List ℕ). get_or xs i 0) asks.starts);
       }
+
+      -- a group that is opened as the group's own opening asks is the one that the line asks for
+      pub opened_shows : (g : Group EitherRule) (r : EitherRule) → either_rule r ≡ rule_of o
+          → (group.opening_fault (rule_of o) a ≡ None) × (g.rule ≡ r) × group.Settles (rule_of o) a g.terms × Reached (rule_of o) g.terms g.records []
+          → (opening_fault o ≡ None) × ShowsOpen g o []
+      opened_shows g r means made = (
+        group_asked ∙ ap (option_map OfGroup) made.0,
+        record { rule = ap either_rule made.1 ∙ means; settles = settles g.terms made.2; reached = made.3 },
+      )

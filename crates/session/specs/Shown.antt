@@ -47,10 +47,16 @@ Shows (Some g) (stands_open o xs) = ShowsOpen g o xs
 abbrev pub LedBy : Option (Group EitherRule) → List (List ℕ) → Type 0
 LedBy g ls = Shows g (stands_after ls)
 
--- What an opening answers: just where nothing stands against it, the group that it asks for, with nothing called yet; else what stands against it.
-abbrev pub Opens : Opening → Result (Group EitherRule) SessionFault → Type 0
-Opens o (Ok g) = (opening_fault o ≡ None) × ShowsOpen g o []
-Opens o (Err f) = opening_fault o ≡ Some f
+-- the group that the line asks for is open, with nothing called yet
+abbrev pub ShowsOpened : Option (Group EitherRule) → Opening → Type 0
+ShowsOpened None o = ⊥
+ShowsOpened (Some g) o = ShowsOpen g o []
+
+-- What an opening does to the group g, and answers: just where nothing stands against it, the group that it asks for is open then; else it tells what
+-- stands against it, and g stays.
+abbrev pub OpensIn : {A : Type 0} → Opening → Option (Group EitherRule) → Option (Group EitherRule) → Result A SessionFault → Type 0
+OpensIn o g h (Ok done) = (opening_fault o ≡ None) × ShowsOpened h o
+OpensIn o g h (Err f) = (opening_fault o ≡ Some f) × (h ≡ g)
 
 -- A call x on the open group, where board i is named first, leads from g to h and answers r, whatever calls have led to g.
 abbrev pub Calls : Group EitherRule → Call → ℕ → Group EitherRule → Result Played SessionFault → Type 0

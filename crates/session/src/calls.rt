@@ -40,8 +40,7 @@ pub(crate) fn open(
     requires { length (starts_of plan.now) ≡ plan.now.crew }
     ensures { PlaysCall group.old (opens (opening_of plan.now)) group.new result }
 {
-    let fresh = opened(plan)?;
-    *group = Some(fresh);
+    opened(group, plan)?;
     Ok(Played {
         words: 0,
         decision: None,
