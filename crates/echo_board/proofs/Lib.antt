@@ -1,6 +1,7 @@
 pub mod Starts
 pub mod Quiet
 mod Unmoved
+mod Due
 pub mod Memory
 pub mod Fields
 pub mod Step

@@ -21,6 +21,14 @@ else_same (Some x) b v f = refl
 else_same None true v f = absurd (false≢true (f refl))
 else_same None false v f = refl
 
+-- a vote of a kind that its sender has voted in before is no first vote
+pub first_known : (h : List Vote) (w : Vote) → given (first h w.kind w.sender) ≡ true → (c i : ℕ) → first (w ∷ h) c i ≡ first h c i
+unfolding first
+first_known h w known c i =
+    else_same (first h c i) (of_kind c i w) w.value (λ p.
+    let k = and_parts (eqb w.kind c) _ p in
+    subst₂ (λ (x y : ℕ). given (first h x y) ≡ true) (eqb-true _ _ k.0) (eqb-true _ _ k.1) known)
+
 cond_cases : (b x y : Bool) → cond b x y ≡ true → ((b ≡ true) × (x ≡ true)) ⊎ ((b ≡ false) × (y ≡ true))
 cond_cases true x y p = inl (refl, p)
 cond_cases false x y p = inr (refl, p)
@@ -45,15 +53,8 @@ module _ (h : List Vote) (w : Vote) (rep : repeats h w ≡ true) where
   repeated =
       ⊎_elim (λ a. subst (λ (x : ℕ). given (first h x w.sender) ≡ true) (sym (eqb-true _ _ a.0)) (counted_first h 1 w.value w.sender a.1)) (λ b. b.1) ways
 
-  first_same : (c i : ℕ) → first (w ∷ h) c i ≡ first h c i
-  unfolding first
-  first_same c i =
-      else_same (first h c i) (of_kind c i w) w.value (λ p.
-      let k = and_parts (eqb w.kind c) _ p in
-      subst₂ (λ (x y : ℕ). given (first h x y) ≡ true) (eqb-true _ _ k.0) (eqb-true _ _ k.1) repeated)
-
   pub seen_same : seen (w ∷ h) ≡ seen h
-  seen_same = λ i. record { echo = λ v j. echo_same v j i; first = λ c j. first_same c j i }
+  seen_same = λ i. record { echo = λ v j. echo_same v j i; first = λ c j. first_known h w repeated c j i }
 
 none_first : (c i : ℕ) → given (first [] c i) ≡ false
 unfolding first

@@ -33,7 +33,7 @@ module _ (S : Setting) (nobody : S.rule.fails 0 ≡ true) where
   none_due v = rw (at_first v, never_parted) (and-false (eqb v 0))
 
   -- an echo that is due was due as it was last looked at
-  due_before : (h : List Vote) (v : ℕ) → echoes S v (seen h) ≡ true → ever (λ g. echoes S v (seen g)) h ≡ true
+  pub due_before : (h : List Vote) (v : ℕ) → echoes S v (seen h) ≡ true → ever (λ g. echoes S v (seen g)) h ≡ true
   unfolding ever
   due_before [] v e = clash e (none_due v)
   due_before (u ∷ h) v e = or_right (ever (λ g. echoes S v (seen g)) h) _ e

@@ -1,22 +1,21 @@
 -- One vote makes a board post at most six words: the echo of the vote's value, that of 0, and one word of each other kind. Assumes nothing but that nobody may fail.
-use Rattle.std.proofs.Common.{◌≡◌, ℕ, zero, suc, ◌+◌, ◌*◌, ◌%◌, ◌≤◌, Bool, true, false, cond, not, ◌&&◌, ◌||◌, eqb, leb, List, [], ◌∷◌, Some, sym, refl, ap, ◌∙◌, ⊎_elim, arith}
-use mathlib.Core.Bool.{or-false}
+use Rattle.std.proofs.Common.{◌≡◌, ℕ, zero, suc, ◌+◌, ◌*◌, ◌%◌, ◌≤◌, Bool, true, false, cond, not, ◌&&◌, eqb, leb, List, ◌∷◌, Some, sym, refl, ap, ◌∙◌, ⊎_elim, arith}
 use lib.Count.{ones, ones_step}
-use Rattle.std.proofs.lemmas.Bool.{and_parts, and_right, or_cases, or_parts, not-true, cases_Bool, cases_eq, eqb-true, eqb-false, ne_eqb}
+use Rattle.std.proofs.lemmas.Bool.{and_parts, or_cases, not-true, cases_Bool, cases_eq, eqb-true, eqb-false, ne_eqb}
 use Rattle.quorum.specs.Sets.{set_of}
-use Rattle.quorum.specs.Rules.{strong, strong_by}
+use Rattle.quorum.specs.Rules.{strong_by}
 use Rattle.quorum.specs.Truth.{clash, false_unless}
 use Rattle.quorum.specs.Members.{halve}
 use Rattle.quorum.proofs.Masks.{set_of_ext, bit_le, bit_split}
 use Rattle.vote.specs.declared.Vote.{Vote}
-use Rattle.vote.specs.History.{seen, counted, ever, of_kind}
+use Rattle.vote.specs.History.{seen, counted, ever}
 use Rattle.vote.specs.Setting.{Setting}
 use Rattle.agreement.specs.Echo.{echoes, said, echoed, posts, echo}
 use Rattle.vote.specs.News.{values, newly, news_of}
 use Rattle.vote.proofs.Options.{holds_one}
 use Rattle.vote.proofs.Seeking.{set_of_none}
 use Rattle.echo_board.specs.Laws.{words_in}
-use Rattle.echo_board.proofs.Quiet.{at_first}
+use Rattle.echo_board.proofs.Due.{new_only, weak_before, other_same}
 use Rattle.echo_board.proofs.Stays.{word_said}
 
 -- ---- how many a set has
@@ -56,26 +55,8 @@ size_split zero p q = omega (arith, size_none)
 size_split (suc n) p q =
     omega (arith, size_step n p, size_step n (λ i. p i && q i), size_step n (λ i. p i && not (q i)), size_split n (λ i. p (suc i)) (λ i. q (suc i)), bit_split (p 0) (q 0))
 
--- ---- an echo that is new is strong now and was not before
-new_only : (a l e t : Bool) → (a || (l && (e || t))) ≡ true → (a || (l && e)) ≡ false → (t ≡ true) × (e ≡ false)
-new_only true l e t p q = clash refl q
-new_only false false e t p q = clash p refl
-new_only false true true t p q = clash refl q
-new_only false true false t p q = (p, refl)
-
-or_without : (b c : Bool) → c ≡ false → (b || c) ≡ b
-or_without b c p = rw p (or-false b)
-
+-- ---- which echoes are new
 module _ (S : Setting) (nobody : S.rule.fails 0 ≡ true) (start : ℕ) (w : Vote) where
-  weak_before : (h : List Vote) (v : ℕ) → ever (λ g. echoes S v (seen g)) h ≡ false → strong_by S.rule (counted h 1 v) ≡ false
-  unfolding ever echoes
-  weak_before [] v p = at_first S nobody v
-  weak_before (u ∷ h) v p = (or_parts (strong_by S.rule (counted (u ∷ h) 1 v)) _ (or_parts (ever (λ g. echoes S v (seen g)) h) _ p).1).0
-
-  other_same : (h : List Vote) (v : ℕ) → (w.value ≡ v → ⊥) → strong_by S.rule (counted (w ∷ h) 1 v) ≡ strong_by S.rule (counted h 1 v)
-  unfolding counted
-  other_same h v ne = ap (strong S.rule) (set_of_ext S.rule.crew _ _ (λ i l. or_without (counted h 1 v i) _ (and_right (of_kind 1 i w) _ (ne_eqb w.value v ne))))
-
   strong_now : (h : List Vote) (v : ℕ) → (v ≡ 0 → ⊥) → echoes S v (seen (w ∷ h)) ≡ true → strong_by S.rule (counted (w ∷ h) 1 v) ≡ true
   unfolding echoes
   strong_now h v ne p = ⊎_elim (λ e. e) (λ e. clash (and_parts (eqb v 0) _ e).0 (ne_eqb v 0 ne)) (or_cases (strong_by S.rule (counted (w ∷ h) 1 v)) _ p)
@@ -86,7 +67,7 @@ module _ (S : Setting) (nobody : S.rule.fails 0 ≡ true) (start : ℕ) (w : Vot
       let k = and_parts (echoed S start (w ∷ h) v) _ p in
       let t = new_only (eqb v start) (leb v S.characters) (ever (λ g. echoes S v (seen g)) h) (echoes S v (seen (w ∷ h))) k.0 (not-true _ k.1) in
       ⊎_elim (λ (e : w.value ≡ v). sym e)
-      (λ (e : w.value ≡ v → ⊥). clash (sym (other_same h v e) ∙ strong_now h v ne t.0) (weak_before h v t.1))
+      (λ (e : w.value ≡ v → ⊥). clash (sym (other_same S nobody h w v e) ∙ strong_now h v ne t.0) (weak_before S nobody h v t.1))
       (cases_eq w.value v)
 
   -- ---- how many words of each kind are new

@@ -21,7 +21,7 @@ module _ (S : Setting) where
   said_stays g h c v p = memo_stays (λ g. found S S.depth c (seen g)) g h v p
 
   module _ (start : ℕ) where
-    echo_stays : (g h : List Vote) (v : ℕ) → echoed S start h v ≡ true → echoed S start (g ++ h) v ≡ true
+    pub echo_stays : (g h : List Vote) (v : ℕ) → echoed S start h v ≡ true → echoed S start (g ++ h) v ≡ true
     unfolding echoed
     echo_stays g h v p =
         ⊎_elim (λ e. or_left (eqb v start) _ e)

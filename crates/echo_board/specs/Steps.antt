@@ -1,5 +1,5 @@
 -- One step on a record, as the code takes it: what the tests find now, what is kept of it, and what is new. Assumes nothing.
-use Rattle.std.specs.Prelude.{ℕ, ◌-◌, cond, not, ◌&&◌, ◌||◌, Bool, [], ◌∷◌, None, Option, ◌==◌, bit_and, bit_or, nat_le}
+use Rattle.std.specs.Prelude.{ℕ, ◌-◌, cond, not, ◌&&◌, ◌||◌, Bool, [], ◌∷◌, None, Option, ◌==◌, bit_and, bit_or}
 use Rattle.vote.specs.declared.Depth.{Depth}
 use Rattle.vote.specs.declared.Depth.TheVariants.{One, Two}
 use Rattle.vote.specs.declared.News.{News}
@@ -7,20 +7,10 @@ use Rattle.vote.specs.declared.Vote.{Vote}
 use Rattle.vote.specs.History.{Seen}
 use Rattle.vote.specs.Search.{or_else, is}
 use Rattle.vote.specs.Setting.{Setting}
-use Rattle.agreement.specs.Echo.{approved, echoes, found, verdict}
+use Rattle.agreement.specs.Echo.{approved, found, verdict}
 use Rattle.vote.specs.News.{values}
+use Rattle.heard.specs.Due.{echo_due}
 use Rattle.echo_board.specs.declared.findings.Findings.{Findings}
-
--- what the seven tests make of all that is counted
-unfoldable pub findings_of : Setting → Seen → Findings
-findings_of S x = record {
-  echoes = values (λ v. nat_le v S.characters && echoes S v x);
-  second = found S S.depth 2 x;
-  third = found S S.depth 3 x;
-  fourth = found S S.depth 4 x;
-  fifth = found S S.depth 5 x;
-  decision = verdict S S.depth x;
-}
 
 -- With the vote w a value may have become approved: w is an echo, and its value is approved. Under a rule without a cover any value may be, before there is an echo of it.
 abbrev pub approves : Setting → Vote → Seen → Bool
@@ -31,16 +21,16 @@ abbrev pub decides_by : Depth → ℕ → Bool
 decides_by One c = c == 3
 decides_by Two c = c == 4 || c == 5
 
--- What is made of the tests once the vote w is counted: what is held in o, and otherwise what the tests find that look at something that w has changed.
+-- What is made of the seven tests once the vote w is counted: what is held in o, and otherwise what the tests find that look at something that w has changed.
 -- Only an echo can make an echo due; the others look at the votes of a kind, and at what is approved.
-abbrev pub completing : Setting → Vote → Seen → Findings → Findings → Findings
-completing S w x o f = record {
-  echoes = cond (w.kind == 1) f.echoes 0;
-  second = or_else o.second (cond (approves S w x) f.second None);
-  third = or_else o.third (cond (approves S w x || w.kind == 2) f.third None);
-  fourth = or_else o.fourth (cond (approves S w x || w.kind == 3) f.fourth None);
-  fifth = or_else o.fifth (cond (approves S w x || w.kind == 4) f.fifth None);
-  decision = or_else o.decision (cond (approves S w x || decides_by S.depth w.kind) f.decision None);
+abbrev pub completing : Setting → Vote → Seen → Findings → Findings
+completing S w x o = record {
+  echoes = cond (w.kind == 1) (values (echo_due S w o.echoes x)) 0;
+  second = or_else o.second (cond (approves S w x) (found S S.depth 2 x) None);
+  third = or_else o.third (cond (approves S w x || w.kind == 2) (found S S.depth 3 x) None);
+  fourth = or_else o.fourth (cond (approves S w x || w.kind == 3) (found S S.depth 4 x) None);
+  fifth = or_else o.fifth (cond (approves S w x || w.kind == 4) (found S S.depth 5 x) None);
+  decision = or_else o.decision (cond (approves S w x || decides_by S.depth w.kind) (verdict S S.depth x) None);
 }
 
 -- what was there stays, and what was not is as found

@@ -1,6 +1,6 @@
 // What is held of the seven tests, and what those without an answer find now.
 ghost use Rattle.std.specs.Prelude.{◌≡◌, ◌≤◌, ◌||◌, ◌==◌, cond, None, Some, MatchOption};
-ghost use Rattle.echo_board.specs.Steps.{approves as may_approve, completing, findings_of, remembering, news_in};
+ghost use Rattle.echo_board.specs.Steps.{approves as may_approve, completing, remembering, news_in};
 ghost use Rattle.heard.specs.Limits.{max_characters};
 ghost use Rattle.heard.specs.Shown.{heard_of, setting_in};
 ghost use Rattle.vote.specs.History.{Seen};
@@ -66,11 +66,11 @@ impl Findings {
         vote: Vote,
     ) -> Findings
         requires { vote.value ≤ max_characters }
-        ensures { (x : Seen) → heard.now ≡ heard_of (R.meaning voting.now.rule.now).crew x → result ≡ completing (setting_in voting.now) vote x self.now (findings_of (setting_in voting.now) x) }
+        ensures { (x : Seen) → heard.now ≡ heard_of (R.meaning voting.now.rule.now).crew x → result ≡ completing (setting_in voting.now) vote x self.now }
     {
         let approves = approves(heard, voting, vote);
         let echoes = if vote.kind == ECHO {
-            heard.echoes(voting)
+            heard.echoes(voting, vote, self.echoes)
         } else {
             0
         };

@@ -1,5 +1,5 @@
-pub mod Build
 pub mod Read
 pub mod Grow
 pub mod Made
 pub mod Tested
+pub mod Due

@@ -1,21 +1,18 @@
 -- What is asked of the sets of senders is what is asked of that which they show. Assumes nothing.
-use Rattle.std.proofs.Common.{◌≡◌, ℕ, zero, suc, ◌-◌, ◌<◌, ◌≤◌, Bool, true, false, not, ◌&&◌, ◌||◌, eqb, leb, get_or, Some, None, Option, sym, refl, ap, ◌∙◌, ap₂, ⊎_elim, arith}
-use mir.Val.{bool_byte}
-use lib.Bits.{bit_or, bit_and}
+use Rattle.std.proofs.Common.{◌≡◌, ℕ, zero, suc, ◌-◌, ◌<◌, ◌≤◌, Bool, false, not, ◌&&◌, eqb, leb, get_or, Some, None, Option, sym, refl, ap, ◌∙◌, ap₂, arith}
+use lib.Bits.{bit_and}
 use lib.Dec.{leb-zero}
-use Rattle.std.proofs.lemmas.Bool.{and_right, ne_eqb, le-leb, cases_eq}
-use Rattle.quorum.specs.Sets.{set_of}
+use Rattle.std.proofs.lemmas.Bool.{and_right, ne_eqb, le-leb}
 use Rattle.quorum.specs.Rules.{Rule, strong, ample, strong_by, ample_by}
 use Rattle.quorum.specs.declared.rule.FailureRule.{Ghosts}
 use Rattle.quorum.specs.Facts.{AmpleSetsShare}
 use Rattle.quorum.specs.Members.{member_set_of}
 use Rattle.quorum.specs.Truth.{false_since}
-use Rattle.quorum.proofs.Masks.{set_of_ext, set_of_or, set_of_minus}
+use Rattle.quorum.proofs.Masks.{set_of_ext, set_of_minus}
 use Rattle.vote.specs.declared.voting.Voting.{Voting}
 use Rattle.vote.specs.History.{Seen, says, speaks}
 use Rattle.vote.specs.Search.{seek, all_below, some_below, given, is}
 use Rattle.agreement.specs.Echo.{other}
-use Rattle.vote.specs.News.{values}
 use Rattle.vote.proofs.Options.{is_given}
 use Rattle.vote.proofs.Seeking.{nothing_below, seek_ext, some_in}
 use Rattle.heard.specs.declared.tally.Tally.{Tally}
@@ -27,12 +24,6 @@ use Rattle.heard.proofs.Read.{tally_all, tally_value, echo_at, value_at, all_at}
 other_is : (u : ℕ) (a : Option ℕ) → (given a && not (is u a)) ≡ other u a
 other_is u None = refl
 other_is u (Some v) = refl
-
--- a test as a set of the value 0 alone
-byte_set : (t : Bool) → bool_byte t ≡ values (λ v. eqb v 0 && t)
-unfolding set_of
-byte_set true = refl
-byte_set false = refl
 
 from_one : (v : ℕ) → leb 1 v ≡ not (eqb v 0)
 from_one zero = refl
@@ -61,6 +52,9 @@ module _ {B : Type 0} {m : Ghosts B} (V : Voting B m) where
   module _ (o : Heard) (x : Seen) (e : o ≡ heard_of R.crew x) where
     pub ample_echo : (v : ℕ) → v ≤ 8 → ample R (get_or o.echoes v 0) ≡ ample_by R (x.echo v)
     ample_echo v h = ap (ample R) (echo_at R.crew o x e v h)
+
+    pub strong_at : (v : ℕ) → v ≤ 8 → strong R (get_or o.echoes v 0) ≡ strong_by R (x.echo v)
+    strong_at v h = ap (strong R) (echo_at R.crew o x e v h)
 
     pub ample_all : (j : ℕ) → j < 5 → ample R (get_or o.first j beyond).all ≡ ample_by R (speaks x (suc j))
     ample_all j h = ap (ample R) (all_at R.crew o x e j h)
@@ -92,18 +86,3 @@ module _ {B : Type 0} {m : Ghosts B} (V : Voting B m) where
         seek_ext (suc k) _ _ (λ w h. ap₂ (λ (a b : Bool). not (eqb w 0) && a && b)
         (ap (λ (s : ℕ). not (eqb s 0)) (value_at R.crew o x e 4 w (omega arith) (omega arith)) ∙ some_in R.crew (says x 5 w))
         (ap (strong R) (value_at R.crew o x e 3 w (omega arith) (omega arith))))
-
-    pub echoes_is : (t : Bool) → bit_or (values (λ v. leb v k && strong R (get_or o.echoes v 0))) (bool_byte t) ≡ values (λ v. leb v k && (strong_by R (x.echo v) || (eqb v 0 && t)))
-    echoes_is t =
-        ap₂ bit_or (set_of_ext 9 _ _ (λ v h. ap (λ (b : Bool). leb v k && b) (ap (strong R) (echo_at R.crew o x e v (omega arith))))) (byte_set t)
-        ∙ sym (set_of_or 9 (λ v. leb v k && strong_by R (x.echo v)) (λ v. eqb v 0 && t))
-        ∙ set_of_ext 9 _ _ (λ v h. join v (strong_by R (x.echo v)))
-      where
-        shift : (a s : Bool) → ((a && s) || false) ≡ (a && (s || false))
-        shift true s = refl
-        shift false s = refl
-
-        join : (v : ℕ) (s : Bool) → ((leb v k && s) || (eqb v 0 && t)) ≡ (leb v k && (s || (eqb v 0 && t)))
-        join v s =
-            ⊎_elim (λ (q : v ≡ 0). rw (le-leb v k (omega arith)))
-            (λ (q : v ≡ 0 → ⊥). rw (ne_eqb v 0 q) (shift (leb v k) s)) (cases_eq v 0)

@@ -1,12 +1,14 @@
 -- What the sets of senders say of that which they show. Assumes nothing.
 use Rattle.std.proofs.Common.{◌≡◌, ℕ, suc, ◌-◌, ◌<◌, ◌≤◌, get_or, Option, ap, ◌∙◌, arith}
 use Rattle.std.proofs.lemmas.List.FromFn.{get_or-map-range_with_len}
-use Rattle.quorum.specs.Sets.{set_of}
+use Rattle.quorum.specs.Sets.{member, set_of}
+use Rattle.vote.specs.declared.Vote.{Vote}
 use Rattle.vote.specs.History.{Seen, says, speaks}
 use Rattle.vote.specs.Search.{given, is}
 use Rattle.heard.specs.declared.tally.Tally.{Tally}
 use Rattle.heard.specs.declared.counted.Heard.{Heard}
 use Rattle.heard.specs.Shown.{heard_of, tally_of, table}
+use Rattle.heard.specs.Due.{opens}
 use Rattle.heard.specs.Masks.{beyond}
 
 pub table_at : {A : Type 0} (n : ℕ) (f : ℕ → A) (i : ℕ) (d : A) → i < n → get_or (table n f) i d ≡ f i
@@ -37,6 +39,9 @@ module _ (n : ℕ) (o : Heard) (x : Seen) (e : o ≡ heard_of n x) where
 
   pub all_at : (j : ℕ) → j < 5 → (get_or o.first j beyond).all ≡ set_of n (speaks x (suc j))
   all_at j h = tally_all n (x.first (suc j)) _ (first_at j h)
+
+  pub opens_at : (w : Vote) → w.value ≤ 8 → member w.sender (get_or (get_or o.first 0 beyond).values w.value 0) ≡ opens n w x
+  opens_at w h = ap (member w.sender) (value_at 0 w.value (omega arith) h)
 
   -- the kind, counted from 1
   pub first_of : (c : ℕ) → 1 ≤ c → c ≤ 5 → get_or o.first (c - 1) beyond ≡ tally_of n (x.first c)

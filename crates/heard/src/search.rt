@@ -1,9 +1,8 @@
 // What a look through the values, 0 too, finds in their sets of senders.
-ghost use Rattle.std.specs.Prelude.{◌≡◌, ℕ, suc, ◌&&◌, Option, nat_le, slice_index};
+ghost use Rattle.std.specs.Prelude.{◌≡◌, ℕ, suc, ◌&&◌, Option, nat_le};
 ghost use Rattle.heard.specs.Masks.{others as others_of, ample_from, backed_in};
 ghost use Rattle.heard.specs.Shown.{tally_of};
 ghost use Rattle.quorum.specs.Rules.{strong as is_strong, ample_by};
-ghost use Rattle.vote.specs.News.{values};
 ghost use Rattle.vote.specs.Search.{is, seek, all_below};
 
 use crate::tally::Tally;
@@ -33,20 +32,6 @@ pub(crate) fn lowest_shared<R: FailureRule>(
         return None;
     }
     lowest_ample(voting, &tally.values, from)
-}
-
-// The values whose senders are strong, as a set. A loop, as a fold would only carry the set through a closure.
-pub(crate) fn strong_values<R: FailureRule>(voting: &Voting<R>, senders: &[u16; VALUES]) -> u16
-    ensures { result ≡ values (λ v. nat_le v voting.now.characters && is_strong (R.meaning voting.now.rule.now) (slice_index senders.now v)) }
-{
-    let mut found: u16 = 0;
-    // Tried as `0..=`: the last turn then wants a proof of its own, twice the answers for one sign less.
-    for v in 0..voting.characters + 1 {
-        if strong(voting.rule, senders[v as usize]) {
-            found |= 1 << v;
-        }
-    }
-    found
 }
 
 // Whether for each value the senders whose opening is another are strong.

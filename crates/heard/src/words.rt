@@ -1,15 +1,27 @@
 // Tests 1 to 6: which words are to be posted for what is counted.
-ghost use Rattle.std.specs.Prelude.{◌&&◌, nat_le};
-ghost use Rattle.heard.specs.Shown.{Makes};
-ghost use Rattle.agreement.specs.Echo.{parted as is_parted, echoes as echoes_of, second as second_of, third as third_of, outcome as outcome_of, fifth as fifth_of};
+ghost use Rattle.std.specs.Prelude.{◌≡◌, ℕ, ◌≤◌};
+ghost use Rattle.heard.specs.Due.{echo_due, opens as opens_in};
+ghost use Rattle.heard.specs.Limits.{max_characters};
+ghost use Rattle.heard.specs.Shown.{Makes, heard_of};
+ghost use Rattle.agreement.specs.Echo.{parted as is_parted, second as second_of, third as third_of, outcome as outcome_of, fifth as fifth_of};
+ghost use Rattle.vote.specs.History.{Seen};
 ghost use Rattle.vote.specs.News.{values};
 
 use crate::counted::Heard;
-use crate::search::{lowest_ample, lowest_shared, parted_among, strong_values};
-use quorum::FailureRule;
-use vote::Voting;
+use crate::search::{lowest_ample, lowest_shared, parted_among};
+use quorum::{FailureRule, has, strong};
+use vote::{Vote, Voting};
 
 impl Heard {
+    // Whether the sender's opening bears the value of its vote: of an echo that is newly counted, whether it is the opening.
+    #[tactic(auto, using(crate::proofs::Read::opens_at))]
+    fn opens(&self, vote: Vote) -> bool
+        requires { vote.value ≤ max_characters }
+        ensures { (n : ℕ) (x : Seen) → self.now ≡ heard_of n x → result ≡ opens_in n vote x }
+    {
+        has(self.first[0].values[vote.value as usize], vote.sender)
+    }
+
     // Whether for every value the senders with another opening are strong.
     fn parted<R: FailureRule>(&self, voting: &Voting<R>) -> bool
         ensures { Makes voting.now is_parted self.now result }
@@ -17,12 +29,15 @@ impl Heard {
         parted_among(voting, &self.first[0])
     }
 
-    // Tests 1 and 2: the values to echo, as a set.
-    pub fn echoes<R: FailureRule>(&self, voting: &Voting<R>) -> u16
-        ensures { Makes voting.now (λ S x. values (λ v. nat_le v voting.now.characters && echoes_of S v x)) self.now result }
+    // Tests 1 and 2 once the echo is counted: the values to echo, as a set, without those that are echoed already.
+    // To make test 1 for no value but the vote's, and test 2 only for an opening, takes some 52 instructions less for each line of `bench`.
+    pub fn echoes<R: FailureRule>(&self, voting: &Voting<R>, vote: Vote, echoed: u16) -> u16
+        requires { vote.value ≤ max_characters }
+        ensures { Makes voting.now (λ S x. values (echo_due S vote echoed x)) self.now result }
     {
-        let strong = strong_values(voting, &self.echoes);
-        strong | self.parted(voting) as u16
+        let own = !has(echoed, vote.value) && strong(voting.rule, self.echoes[vote.value as usize]);
+        let zero = !has(echoed, 0) && self.opens(vote) && self.parted(voting);
+        (own as u16) << vote.value | zero as u16
     }
 
     // Test 3: the value of kind 2.

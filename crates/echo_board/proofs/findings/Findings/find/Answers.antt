@@ -1,7 +1,6 @@
 -- The seven tests, at either depth. Assumes nothing.
 use Rattle.std.proofs.Common.{◌||◌, Bool, eqb, sym, ap, ◌∙◌, rules, tests}
 use Rattle.std.proofs.lemmas.Bool.{cond-true, cond-false, eq-eqb, ne_eqb}
-use Rattle.vote.specs.declared.Depth.TheVariants.{One, Two}
 use Rattle.echo_board.proofs.Memory.{else_made, found_one, found_two}
 use Rattle.echo_board.proofs.findings.Findings.find.Goals as goal
 use Rattle.echo_board.proofs.findings.Findings.find.Goals.{then-vote-eq-ECHO, else-vote-eq-ECHO}
@@ -13,7 +12,7 @@ returns-in-One g c = λ x e.
     let few = c.approves-approves.ensures x e in
     found_one (g.R.FailureRule.meaning c.args.voting.now.rule.now) c.args.voting.now.characters x o c.args.voting.now.depth w c.in-One.is
     (elim c.if-vote-eq-ECHO.branch [
-      | then-vote-eq-ECHO k ↦ k.echoes-is ∙ k.echoes-echoes.ensures One x e ∙ sym (cond-true _ _ _ (eq-eqb w.kind 1 k.if-vote-eq-ECHO.true))
+      | then-vote-eq-ECHO k ↦ k.echoes-is ∙ k.echoes-echoes.ensures c.args.voting.now.depth x e ∙ sym (cond-true _ _ _ (eq-eqb w.kind 1 k.if-vote-eq-ECHO.true))
       | else-vote-eq-ECHO k ↦ k.echoes-is ∙ sym (cond-false _ _ _ (ne_eqb w.kind 1 k.if-vote-eq-ECHO.false))
     ])
     (else_made o.second _ _ c.held_or-second.ensures (λ k. search (rules, tests)) few)
@@ -27,7 +26,7 @@ returns-in-Two g c = λ x e.
     let few = c.approves-approves.ensures x e in
     found_two (g.R.FailureRule.meaning c.args.voting.now.rule.now) c.args.voting.now.characters x o c.args.voting.now.depth w c.in-Two.is
     (elim c.if-vote-eq-ECHO.branch [
-      | then-vote-eq-ECHO k ↦ k.echoes-is ∙ k.echoes-echoes.ensures Two x e ∙ sym (cond-true _ _ _ (eq-eqb w.kind 1 k.if-vote-eq-ECHO.true))
+      | then-vote-eq-ECHO k ↦ k.echoes-is ∙ k.echoes-echoes.ensures c.args.voting.now.depth x e ∙ sym (cond-true _ _ _ (eq-eqb w.kind 1 k.if-vote-eq-ECHO.true))
       | else-vote-eq-ECHO k ↦ k.echoes-is ∙ sym (cond-false _ _ _ (ne_eqb w.kind 1 k.if-vote-eq-ECHO.false))
     ])
     (else_made o.second _ _ c.held_or-second.ensures (λ k. search (rules, tests)) few)
