@@ -11,14 +11,13 @@ use Rattle.quorum.specs.Members.{member_set_of}
 use Rattle.quorum.proofs.Masks.{set_of_ext, set_of_or, set_of_minus}
 use Rattle.vote.specs.declared.Vote.{Vote}
 use Rattle.vote.specs.History.{seen, of_kind, counted, first, says, ever}
-use Rattle.vote.specs.Search.{when, given, is, all_below}
+use Rattle.vote.specs.Search.{given, is, all_below}
 use Rattle.vote.specs.Setting.{Setting}
 use Rattle.agreement.specs.Echo.{other, parted, echoes, echoed}
 use Rattle.vote.specs.News.{values}
-use Rattle.vote.proofs.Options.{is_found, is_else_same, when_found}
+use Rattle.vote.proofs.Options.{is_else_same}
 use Rattle.vote.proofs.Seeking.{set_of_none}
-use Rattle.heard.specs.Shown.{opens}
-use Rattle.echo_board.specs.Steps.{word_set, echoes_due}
+use Rattle.heard.specs.Due.{opens, echo_due}
 use Rattle.echo_board.proofs.Once.{first_known}
 use Rattle.echo_board.proofs.Quiet.{due_before, echoed_same}
 use Rattle.echo_board.proofs.Stays.{echo_stays}
@@ -44,50 +43,47 @@ module _ (S : Setting) (nobody : S.rule.fails 0 ≡ true) (h : List Vote) where
   unfolding counted
   other_same w v ne = ap (strong S.rule) (set_of_ext S.rule.crew _ _ (λ i l. or_without (counted h 1 v i) _ (and_right (of_kind 1 i w) _ (ne_eqb w.value v ne))))
 
--- what the code makes due of w
+-- what is made due of w
 abbrev pub due : Setting → ℕ → List Vote → Vote → ℕ
-due S s h w = cond (eqb w.kind 1) (echoes_due S w (seen (w ∷ h)) (values (echoed S s h))) 0
+due S s h w = cond (eqb w.kind 1) (values (echo_due S w (values (echoed S s h)) (seen (w ∷ h)))) 0
 
 module _ (S : Setting) (nobody : S.rule.fails 0 ≡ true) (s : ℕ) (h : List Vote) (w : Vote) (within : w.sender < S.rule.crew) (low : w.value ≤ S.characters) (few : S.characters ≤ 8) where
   abbrev posted : ℕ
   posted = values (echoed S s h)
 
-  -- test 1 of the vote's value, and test 2
-  abbrev own : Bool
-  own = not (member w.value posted) && strong_by S.rule (counted (w ∷ h) 1 w.value)
-
-  abbrev nothing : Bool
-  nothing = not (member 0 posted) && (opens S.rule.crew w (seen (w ∷ h)) && parted S (seen (w ∷ h)))
-
   abbrev Due : ℕ → Bool
-  Due v = is v (when own w.value) || is v (when nothing 0)
+  Due = echo_due S w posted (seen (w ∷ h))
 
+  -- the vote's value with strong senders, and 0 with parted openings of which the vote is one
+  abbrev Own : ℕ → Bool
+  Own v = eqb v w.value && strong_by S.rule (counted (w ∷ h) 1 v)
+
+  abbrev Zero : ℕ → Bool
+  Zero v = eqb v 0 && (opens S.rule.crew w (seen (w ∷ h)) && parted S (seen (w ∷ h)))
+
+  -- ---- what is due is echoed with w
   now_echoed : (v : ℕ) → v ≤ S.characters → echoes S v (seen (w ∷ h)) ≡ true → echoed S s (w ∷ h) v ≡ true
   unfolding echoed ever
   now_echoed v l e = or_right (eqb v s) _ (and_from _ _ (le-leb v S.characters l) (or_right (ever (λ g. echoes S v (seen g)) h) _ e))
 
-  own_echoed : (v : ℕ) → is v (when own w.value) ≡ true → echoed S s (w ∷ h) v ≡ true
+  own_echoed : (v : ℕ) → Own v ≡ true → echoed S s (w ∷ h) v ≡ true
   unfolding echoes
   own_echoed v p =
-      let k = when_found own w.value v (is_found v _ p) in
-      subst (λ (u : ℕ). echoed S s (w ∷ h) u ≡ true) (sym k.1)
-      (now_echoed w.value low (or_left (strong_by S.rule (counted (w ∷ h) 1 w.value)) _ (and_parts (not (member w.value posted)) _ k.0).1))
+      let k = and_parts (eqb v w.value) _ p in
+      let z = eqb-true v w.value k.0 in
+      now_echoed v (omega arith) (or_left (strong_by S.rule (counted (w ∷ h) 1 v)) _ k.1)
 
-  nothing_echoed : (v : ℕ) → is v (when nothing 0) ≡ true → echoed S s (w ∷ h) v ≡ true
+  zero_echoed : (v : ℕ) → Zero v ≡ true → echoed S s (w ∷ h) v ≡ true
   unfolding echoes
-  nothing_echoed v p =
-      let k = when_found nothing 0 v (is_found v _ p) in
-      let o = and_parts (opens S.rule.crew w (seen (w ∷ h))) _ (and_parts (not (member 0 posted)) _ k.0).1 in
-      subst (λ (u : ℕ). echoed S s (w ∷ h) u ≡ true) (sym k.1)
-      (now_echoed 0 (omega arith) (or_right (strong_by S.rule (counted (w ∷ h) 1 0)) _ o.1))
+  zero_echoed v p =
+      let k = and_parts (eqb v 0) _ p in
+      let z = eqb-true v 0 k.0 in
+      now_echoed v (omega arith) (or_right (strong_by S.rule (counted (w ∷ h) 1 v)) _ (and_from _ _ k.0 (and_parts (opens S.rule.crew w (seen (w ∷ h))) _ k.1).1))
 
-  absent : (v : ℕ) → v ≤ 8 → echoed S s h v ≡ false → not (member v posted) ≡ true
-  absent v l e = not_from_false _ (member_set_of 9 (echoed S s h) v (omega arith) ∙ e)
+  due_echoed : (v : ℕ) → Due v ≡ true → echoed S s (w ∷ h) v ≡ true
+  due_echoed v p = ⊎_elim (own_echoed v) (zero_echoed v) (or_cases (Own v) _ (and_parts (not (member v posted)) _ p).1)
 
-  held_now : (b : Bool) (v u : ℕ) → b ≡ true → v ≡ u → is v (when b u) ≡ true
-  held_now b v u p q = rw p (eq-eqb v u q)
-
-  -- ---- what is newly echoed is due
+  -- ---- what is newly echoed with w is due
   module _ (echo : w.kind ≡ 1) where
     -- with an opening that was there before, the openings are those of before
     parted_same : given (first h 1 w.sender) ≡ true → parted S (seen (w ∷ h)) ≡ parted S (seen h)
@@ -103,53 +99,44 @@ module _ (S : Setting) (nobody : S.rule.fails 0 ≡ true) (s : ℕ) (h : List Vo
         ∙ is_else_same (first h 1 w.sender) (of_kind 1 w.sender w) w.value (λ b. g)
         ∙ or_right (is w.value (first h 1 w.sender)) _ (and_from _ _ (eq-eqb w.kind 1 echo) (eq-eqb w.sender w.sender refl))
 
-    opens_new : ever (λ g. echoes S 0 (seen g)) h ≡ false → parted S (seen (w ∷ h)) ≡ true → opens S.rule.crew w (seen (w ∷ h)) ≡ true
+    opens_new : (v : ℕ) → eqb v 0 ≡ true → ever (λ g. echoes S v (seen g)) h ≡ false → parted S (seen (w ∷ h)) ≡ true → opens S.rule.crew w (seen (w ∷ h)) ≡ true
     unfolding echoes
-    opens_new e p =
-        ⊎_elim (λ g. clash (due_before S nobody h 0 (or_right (strong_by S.rule (counted h 1 0)) _ (sym (parted_same g) ∙ p))) e) opened
+    opens_new v z e p =
+        ⊎_elim (λ g. clash (due_before S nobody h v (or_right (strong_by S.rule (counted h 1 v)) _ (and_from _ _ z (sym (parted_same g) ∙ p)))) e) opened
         (cases_Bool (given (first h 1 w.sender)))
 
-    due_now : (v : ℕ) → v < 9 → echoed S s h v ≡ false → ever (λ g. echoes S v (seen g)) h ≡ false → echoes S v (seen (w ∷ h)) ≡ true → Due v ≡ true
+    found_now : (v : ℕ) → ever (λ g. echoes S v (seen g)) h ≡ false → echoes S v (seen (w ∷ h)) ≡ true → (Own v || Zero v) ≡ true
     unfolding echoes
-    due_now v l q e t =
+    found_now v e t =
         ⊎_elim
-        (λ (p : strong_by S.rule (counted (w ∷ h) 1 v) ≡ true). ⊎_elim
-        (λ (z : w.value ≡ v). or_left (is v (when own w.value)) _ (held_now own v w.value
-        (and_from _ _ (absent w.value (omega arith) (ap (echoed S s h) z ∙ q)) (ap (λ (u : ℕ). strong_by S.rule (counted (w ∷ h) 1 u)) z ∙ p)) (sym z)))
+        (λ (p : strong_by S.rule (counted (w ∷ h) 1 v) ≡ true). or_left (Own v) _ (⊎_elim
+        (λ (z : w.value ≡ v). and_from _ _ (eq-eqb v w.value (sym z)) p)
         (λ (z : w.value ≡ v → ⊥). clash (sym (other_same S nobody h w v z) ∙ p) (weak_before S nobody h v e))
-        (cases_eq w.value v))
-        (λ p.
-        let k = and_parts (eqb v 0) _ p in
-        let z : v ≡ 0 = eqb-true v 0 k.0 in
-        or_right (is v (when own w.value)) _ (held_now nothing v 0
-        (and_from _ _ (absent 0 (omega arith) (ap (echoed S s h) (sym z) ∙ q))
-        (and_from _ _ (opens_new (subst (λ (u : ℕ). ever (λ g. echoes S u (seen g)) h ≡ false) z e) k.1) k.1)) z))
+        (cases_eq w.value v)))
+        (λ p. let k = and_parts (eqb v 0) _ p in or_right (Own v) _ (and_from _ _ k.0 (and_from _ _ (opens_new v k.0 e k.1) k.1)))
         (or_cases (strong_by S.rule (counted (w ∷ h) 1 v)) _ t)
 
     newly_due : (v : ℕ) → v < 9 → echoed S s (w ∷ h) v ≡ true → echoed S s h v ≡ false → Due v ≡ true
     unfolding echoed ever
     newly_due v l p q =
         let k = new_only (eqb v s) (leb v S.characters) (ever (λ g. echoes S v (seen g)) h) (echoes S v (seen (w ∷ h))) p q in
-        due_now v l q k.1 k.0
+        and_from _ _ (not_from_false _ (member_set_of 9 (echoed S s h) v l ∙ q)) (found_now v k.1 k.0)
 
   -- ---- so with what is due all is echoed that is echoed with w
   abbrev DueOf : ℕ → Bool
   DueOf v = eqb w.kind 1 && Due v
 
   due_is : due S s h w ≡ values DueOf
-  unfolding word_set
   due_is = at (eqb w.kind 1)
     where
-      at : (b : Bool) → cond b (bit_or (values (λ v. is v (when own w.value))) (values (λ v. is v (when nothing 0)))) 0 ≡ values (λ v. b && Due v)
-      at true = sym (set_of_or 9 _ _)
+      at : (b : Bool) → cond b (values Due) 0 ≡ values (λ v. b && Due v)
+      at true = refl
       at false = sym (set_of_none 9)
 
   with_due : (v : ℕ) → v < 9 → (echoed S s h v || DueOf v) ≡ echoed S s (w ∷ h) v
   with_due v l =
       ⊎_elim (λ (q : w.kind ≡ 1). rw (eq-eqb w.kind 1 q) (same_truth _ _
-      (λ p. ⊎_elim (echo_stays S s (w ∷ []) h v)
-      (λ e. ⊎_elim (own_echoed v) (nothing_echoed v) (or_cases (is v (when own w.value)) _ e))
-      (or_cases (echoed S s h v) _ p))
+      (λ p. ⊎_elim (echo_stays S s (w ∷ []) h v) (due_echoed v) (or_cases (echoed S s h v) _ p))
       (λ p. ⊎_elim (or_left (echoed S s h v) _) (λ e. or_right (echoed S s h v) _ (newly_due q v l p e)) (cases_Bool (echoed S s h v)))))
       (λ (q : w.kind ≡ 1 → ⊥). rw (ne_eqb w.kind 1 q) (or-false (echoed S s h v) ∙ sym (echoed_same S nobody h w q s v)))
       (cases_eq w.kind 1)

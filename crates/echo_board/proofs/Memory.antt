@@ -10,14 +10,15 @@ use Rattle.vote.specs.Search.{or_else}
 use Rattle.vote.specs.Setting.{Setting}
 use Rattle.vote.proofs.Options.{else_none}
 use Rattle.agreement.specs.Echo.{approved, parted, decides, second, third, outcome, fifth, found, verdict, said, decided, posts, echo}
-use Rattle.vote.specs.News.{news_of}
+use Rattle.vote.specs.News.{values, news_of}
+use Rattle.heard.specs.Due.{echo_due}
 use Rattle.heard.specs.Shown.{heard_of, setting}
 use Rattle.echo_board.specs.declared.board.EchoRecord.{EchoRecord}
 use Rattle.echo_board.specs.declared.findings.Findings.{Findings}
 use Rattle.echo_board.specs.Records.{held_of, record_of}
 use Rattle.echo_board.proofs.Due.{due, due_kept, due_new}
 use Rattle.echo_board.proofs.Unmoved.{remembered, second_due, third_due, fourth_due, fifth_due, decision_due}
-use Rattle.echo_board.specs.Steps.{approves, decides_by, echoes_due, completing, remembering, fresh, news_in}
+use Rattle.echo_board.specs.Steps.{approves, decides_by, completing, remembering, fresh, news_in}
 
 -- ---- what the record holds of the tests, and otherwise what those find that are due, at either depth
 pub else_made : {A P : Type 0} (s : Option A) {r : Option A} (b : Bool) {d : Bool} (t : Option A) → MatchOption s (cond b P (r ≡ None)) (λ y. r ≡ Some y) → (P → r ≡ t) → b ≡ d → r ≡ or_else s (cond d t None)
@@ -37,7 +38,7 @@ module _ (R : Rule) (k : ℕ) (x : Seen) (o : Findings) (d : Depth) (w : Vote) w
   abbrev A : Bool
   A = approves (setting R k d) w x
 
-  pub found_one : {a : ℕ} {b c : Option ℕ} {v : Option Decision} → d ≡ One → a ≡ cond (eqb w.kind 1) (echoes_due (setting R k d) w x o.echoes) 0 → b ≡ or_else o.second (cond A (second (setting R k One) x) None)
+  pub found_one : {a : ℕ} {b c : Option ℕ} {v : Option Decision} → d ≡ One → a ≡ cond (eqb w.kind 1) (values (echo_due (setting R k d) w o.echoes x)) 0 → b ≡ or_else o.second (cond A (second (setting R k One) x) None)
       → c ≡ or_else o.third (cond (A || eqb w.kind 2) (third (setting R k One) x) None) → v ≡ or_else o.decision (cond (A || eqb w.kind 3) (decides 1 (outcome (setting R k One) x)) None)
       → ◌≡◌ {A = Findings} record { echoes = a; second = b; third = c; fourth = o.fourth; fifth = o.fifth; decision = v } (completing (setting R k d) w x o)
   unfolding found verdict approved parted
@@ -45,7 +46,7 @@ module _ (R : Rule) (k : ℕ) (x : Seen) (o : Findings) (d : Depth) (w : Vote) w
       subst (λ (z : Depth). ◌≡◌ {A = Findings} record { echoes = a; second = b; third = c; fourth = o.fourth; fifth = o.fifth; decision = v } (completing (setting R k z) w x o)) (sym q)
       (findings_ext p1 p2 p3 (none_due o.fourth (A || eqb w.kind 3)) (none_due o.fifth (A || eqb w.kind 4)) p4)
 
-  pub found_two : {a : ℕ} {b c e f : Option ℕ} {v : Option Decision} → d ≡ Two → a ≡ cond (eqb w.kind 1) (echoes_due (setting R k d) w x o.echoes) 0 → b ≡ or_else o.second (cond A (second (setting R k Two) x) None)
+  pub found_two : {a : ℕ} {b c e f : Option ℕ} {v : Option Decision} → d ≡ Two → a ≡ cond (eqb w.kind 1) (values (echo_due (setting R k d) w o.echoes x)) 0 → b ≡ or_else o.second (cond A (second (setting R k Two) x) None)
       → c ≡ or_else o.third (cond (A || eqb w.kind 2) (third (setting R k Two) x) None) → e ≡ or_else o.fourth (cond (A || eqb w.kind 3) (outcome (setting R k Two) x) None)
       → f ≡ or_else o.fifth (cond (A || eqb w.kind 4) (fifth (setting R k Two) x) None) → v ≡ or_else o.decision (cond (A || (eqb w.kind 4 || eqb w.kind 5)) (verdict (setting R k Two) Two x) None)
       → ◌≡◌ {A = Findings} record { echoes = a; second = b; third = c; fourth = e; fifth = f; decision = v } (completing (setting R k d) w x o)

@@ -1,30 +1,23 @@
 -- A board's record and its words as it starts, and a word as a set of its value. Assumes nothing.
-use Rattle.std.proofs.Common.{◌≡◌, ℕ, ◌*◌, ◌%◌, ◌^◌, ◌≤◌, Bool, false, eqb, leb, [], ◌∷◌, Some, None, Option, sym, ap, ◌∙◌, arith}
+use Rattle.std.proofs.Common.{◌≡◌, ℕ, ◌*◌, ◌%◌, ◌^◌, ◌≤◌, eqb, leb, [], ◌∷◌, Some, None, Option, sym, ap, ◌∙◌, arith}
 use mathlib.Core.Bool.{and-true, and-false, or-false}
 use Rattle.std.proofs.Math.Bool.{and-not_self}
-use lib.Bits.{bit_or}
-use Rattle.std.proofs.lemmas.Nat.{one_shl}
 use Rattle.std.proofs.lemmas.Bool.{ne_eqb}
-use Rattle.quorum.proofs.Masks.{set_of_ext, set_of_insert}
+use Rattle.quorum.proofs.Masks.{set_of_ext}
 use Rattle.vote.specs.declared.News.{News}
 use Rattle.vote.specs.History.{seen, memo, ever}
 use Rattle.vote.specs.Search.{is}
 use Rattle.vote.specs.Setting.{Setting}
 use Rattle.agreement.specs.Echo.{said, echoed, decided, posts, echo}
 use Rattle.vote.specs.News.{values, first_news}
-use Rattle.vote.proofs.Options.{eqb_turned}
 use Rattle.vote.proofs.Seeking.{set_of_none}
 use Rattle.heard.specs.declared.counted.Heard.{Heard}
 use Rattle.heard.specs.Shown.{heard_of}
+use Rattle.heard.proofs.Due.{single}
 use Rattle.echo_board.specs.Records.{record_of}
 use Rattle.echo_board.specs.Steps.{word_set, fresh}
 
 -- ---- one value as a set
-single : (s : ℕ) (p : ℕ → Bool) → s ≤ 8 → ((v : ℕ) → p v ≡ eqb v s) → (1 * 2 ^ s) % 65536 ≡ values p
-single s p l f =
-    one_shl s 16 (omega arith) ∙ ap (λ (z : ℕ). bit_or z (2 ^ s)) (sym (set_of_none 9)) ∙ sym (set_of_insert 9 (λ i. false) s (omega arith))
-    ∙ set_of_ext 9 _ _ (λ i h. eqb_turned s i ∙ sym (f i))
-
 module _ (o : Option ℕ) where
   pub word_none : o ≡ None → 0 ≡ word_set o
   unfolding word_set

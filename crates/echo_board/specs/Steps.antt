@@ -1,29 +1,16 @@
 -- One step on a record, as the code takes it: what the tests find now, what is kept of it, and what is new. Assumes nothing.
 use Rattle.std.specs.Prelude.{ℕ, ◌-◌, cond, not, ◌&&◌, ◌||◌, Bool, [], ◌∷◌, None, Option, ◌==◌, bit_and, bit_or}
-use Rattle.quorum.specs.Rules.{strong_by}
-use Rattle.quorum.specs.Sets.{member}
 use Rattle.vote.specs.declared.Depth.{Depth}
 use Rattle.vote.specs.declared.Depth.TheVariants.{One, Two}
 use Rattle.vote.specs.declared.News.{News}
 use Rattle.vote.specs.declared.Vote.{Vote}
 use Rattle.vote.specs.History.{Seen}
-use Rattle.vote.specs.Search.{or_else, when, is}
+use Rattle.vote.specs.Search.{or_else, is}
 use Rattle.vote.specs.Setting.{Setting}
-use Rattle.agreement.specs.Echo.{approved, parted, found, verdict}
+use Rattle.agreement.specs.Echo.{approved, found, verdict}
 use Rattle.vote.specs.News.{values}
-use Rattle.heard.specs.Shown.{opens}
+use Rattle.heard.specs.Due.{echo_due}
 use Rattle.echo_board.specs.declared.findings.Findings.{Findings}
-
--- the value that the word bears, if there is one, as a set
-unfoldable pub word_set : Option ℕ → ℕ
-word_set o = values (λ v. is v o)
-
--- What is made of the tests 1 and 2 once the echo w is counted, where the values of `posted` are echoed already: test 1 only for the value of w, as no other has more senders,
--- test 2 only where w is its sender's opening, as else the openings are those of before, and each only where its value is not echoed.
-abbrev pub echoes_due : Setting → Vote → Seen → ℕ → ℕ
-echoes_due S w x posted =
-    bit_or (word_set (when (not (member w.value posted) && strong_by S.rule (x.echo w.value)) w.value))
-    (word_set (when (not (member 0 posted) && (opens S.rule.crew w x && parted S x)) 0))
 
 -- With the vote w a value may have become approved: w is an echo, and its value is approved. Under a rule without a cover any value may be, before there is an echo of it.
 abbrev pub approves : Setting → Vote → Seen → Bool
@@ -38,7 +25,7 @@ decides_by Two c = c == 4 || c == 5
 -- Only an echo can make an echo due; the others look at the votes of a kind, and at what is approved.
 abbrev pub completing : Setting → Vote → Seen → Findings → Findings
 completing S w x o = record {
-  echoes = cond (w.kind == 1) (echoes_due S w x o.echoes) 0;
+  echoes = cond (w.kind == 1) (values (echo_due S w o.echoes x)) 0;
   second = or_else o.second (cond (approves S w x) (found S S.depth 2 x) None);
   third = or_else o.third (cond (approves S w x || w.kind == 2) (found S S.depth 3 x) None);
   fourth = or_else o.fourth (cond (approves S w x || w.kind == 3) (found S S.depth 4 x) None);
@@ -56,6 +43,10 @@ remembering o f = record {
   fifth = or_else o.fifth f.fifth;
   decision = or_else o.decision f.decision;
 }
+
+-- the value that the word bears, if there is one, as a set
+unfoldable pub word_set : Option ℕ → ℕ
+word_set o = values (λ v. is v o)
 
 -- the value that is there now and was not before, as a set
 unfoldable pub fresh : Option ℕ → Option ℕ → ℕ

@@ -1,13 +1,13 @@
 // What is held of the seven tests, and what those without an answer find now.
 ghost use Rattle.std.specs.Prelude.{◌≡◌, ◌≤◌, ◌||◌, ◌==◌, cond, None, Some, MatchOption};
-ghost use Rattle.echo_board.specs.Steps.{approves as may_approve, echoes_due as echoes_due_in, completing, remembering, news_in};
+ghost use Rattle.echo_board.specs.Steps.{approves as may_approve, completing, remembering, news_in};
 ghost use Rattle.heard.specs.Limits.{max_characters};
 ghost use Rattle.heard.specs.Shown.{heard_of, setting_in};
 ghost use Rattle.vote.specs.History.{Seen};
 
-use crate::news::{keep, value_set};
+use crate::news::keep;
 use heard::{Heard, decision};
-use quorum::{FailureRule, has, without};
+use quorum::{FailureRule, without};
 use vote::{Decision, Depth, ECHO, News, Vote, Voting};
 
 // The values to echo, as a set, the values of the kinds 2 to 5, and the decision. The values stay four fields: each is the answer of another
@@ -57,17 +57,6 @@ fn approves<R: FailureRule>(heard: &Heard, voting: &Voting<R>, vote: Vote) -> bo
 }
 
 impl Findings {
-    // What the echo, which is counted, makes due of the values that are not echoed yet, as a set: its own by test 1, and 0 by test 2.
-    // To make test 1 for no other value, and test 2 only for an opening, takes some 64 instructions less for each line of `bench`.
-    fn echoes_due<R: FailureRule>(&self, heard: &Heard, voting: &Voting<R>, vote: Vote) -> u16
-        requires { vote.value ≤ max_characters }
-        ensures { (x : Seen) → heard.now ≡ heard_of (R.meaning voting.now.rule.now).crew x → result ≡ echoes_due_in (setting_in voting.now) vote x self.now.echoes }
-    {
-        let own = !has(self.echoes, vote.value) && heard.strong_echo(voting, vote.value);
-        let nothing = !has(self.echoes, 0) && heard.parts(voting, vote);
-        value_set(own.then_some(vote.value)) | value_set(nothing.then_some(0))
-    }
-
     // Makes the tests of which there is no answer yet and that look at something that the vote, which is counted, has changed.
     // At depth 1 the outcome decides, and there are no kinds 4 and 5.
     pub(crate) fn find<R: FailureRule>(
@@ -81,7 +70,7 @@ impl Findings {
     {
         let approves = approves(heard, voting, vote);
         let echoes = if vote.kind == ECHO {
-            self.echoes_due(heard, voting, vote)
+            heard.echoes(voting, vote, self.echoes)
         } else {
             0
         };

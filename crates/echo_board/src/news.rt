@@ -11,7 +11,7 @@ use vote::{ECHO, MAX_CHARACTERS, News};
 
 // The value that the word bears, if there is one, as a set. No `From`: such a set is a number, and has no type of its own.
 #[tactic(auto, using(crate::proofs::Starts::word_none, crate::proofs::Starts::word_held, crate::proofs::Starts::word_beyond))]
-pub(crate) fn value_set(word: Option<u8>) -> u16
+fn value_set(word: Option<u8>) -> u16
     ensures { result ≡ word_set word }
 {
     match word {

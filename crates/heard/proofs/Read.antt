@@ -7,7 +7,8 @@ use Rattle.vote.specs.History.{Seen, says, speaks}
 use Rattle.vote.specs.Search.{given, is}
 use Rattle.heard.specs.declared.tally.Tally.{Tally}
 use Rattle.heard.specs.declared.counted.Heard.{Heard}
-use Rattle.heard.specs.Shown.{heard_of, tally_of, table, opens}
+use Rattle.heard.specs.Shown.{heard_of, tally_of, table}
+use Rattle.heard.specs.Due.{opens}
 use Rattle.heard.specs.Masks.{beyond}
 
 pub table_at : {A : Type 0} (n : ℕ) (f : ℕ → A) (i : ℕ) (d : A) → i < n → get_or (table n f) i d ≡ f i

@@ -1,7 +1,7 @@
 -- Each test, from what is asked of the sets of senders: its parts put together are the test's definition. Assumes nothing.
 use Rattle.std.proofs.Common.{◌≡◌, ℕ, suc, ◌+◌, ◌-◌, ◌<◌, ◌≤◌, Bool, true, false, cond, not, ◌&&◌, eqb, leb, get_or, Some, None, Option, sym, ap, ◌∙◌, ap₂, arith}
 use Rattle.quorum.specs.declared.rule.FailureRule.{Ghosts}
-use Rattle.quorum.specs.Rules.{Rule, strong, ample, strong_by, ample_by}
+use Rattle.quorum.specs.Rules.{Rule, ample, ample_by}
 use Rattle.vote.specs.declared.Decision.{Decision}
 use Rattle.vote.specs.declared.Depth.{Depth}
 use Rattle.vote.specs.declared.Depth.TheVariants.{Two}
@@ -14,7 +14,7 @@ use Rattle.vote.proofs.Seeking.{two_none, two_some}
 use Rattle.heard.specs.declared.counted.Heard.{Heard}
 use Rattle.heard.specs.Shown.{heard_of, setting, tally_of}
 use Rattle.heard.specs.Masks.{beyond, ample_from, backed_in}
-use Rattle.heard.proofs.Made.{ample_echo, strong_at, ample_all, lowest_echo, lowest_approved, shared_value, shared_character, backed_is}
+use Rattle.heard.proofs.Made.{ample_echo, ample_all, lowest_echo, lowest_approved, shared_value, shared_character, backed_is}
 use Rattle.heard.proofs.Read.{first_of, value_at}
 
 -- ---- under what a voting settles
@@ -29,9 +29,6 @@ module _ {B : Type 0} {m : Ghosts B} (V : Voting B m) where
     pub approved_made : (v : ℕ) → v ≤ 8 → {r : Bool} → r ≡ ample R (get_or o.echoes v 0) → r ≡ approved (setting R k d) x v
     unfolding approved
     approved_made v h p = p ∙ ample_echo V o x e v h
-
-    pub strong_made : (v : ℕ) → v ≤ 8 → {r : Bool} → r ≡ strong R (get_or o.echoes v 0) → r ≡ strong_by R (x.echo v)
-    strong_made v h p = p ∙ strong_at V o x e v h
 
     pub second_made : {r : Option ℕ} → r ≡ seek (suc k) (ample_from R o.echoes 0) → r ≡ second (setting R k d) x
     unfolding second lowest approved

@@ -1,13 +1,12 @@
 -- How sets of senders show what a board has counted. Assumes nothing.
-use Rattle.std.specs.Prelude.{◌≡◌, ℕ, suc, Bool, List, map, Option}
+use Rattle.std.specs.Prelude.{◌≡◌, ℕ, suc, List, map, Option}
 use Rattle.std.specs.List.{range_with_len}
-use Rattle.quorum.specs.Sets.{member, set_of}
+use Rattle.quorum.specs.Sets.{set_of}
 use Rattle.quorum.specs.Rules.{Rule}
 use Rattle.quorum.specs.declared.rule.FailureRule.{Ghosts}
 use Rattle.vote.specs.declared.Depth.{Depth}
-use Rattle.vote.specs.declared.Vote.{Vote}
 use Rattle.vote.specs.declared.voting.Voting.{Voting}
-use Rattle.vote.specs.History.{Seen, says}
+use Rattle.vote.specs.History.{Seen}
 use Rattle.vote.specs.Search.{given, is}
 use Rattle.vote.specs.Setting.{Setting}
 use Rattle.heard.specs.declared.tally.Tally.{Tally}
@@ -31,10 +30,6 @@ tally_of n f = record { values = table 9 (λ v. set_of n (λ i. is v (f i))); al
 -- of a crew of n, the senders of each echo, and those of the first votes of each kind
 unfoldable pub heard_of : ℕ → Seen → Heard
 heard_of n x = record { echoes = table 9 (λ v. set_of n (x.echo v)); first = table 5 (λ c. tally_of n (x.first (suc c))) }
-
--- of a crew of n, the opening of w's sender, which is its first vote of kind 1, bears the value of w
-abbrev pub opens : ℕ → Vote → Seen → Bool
-opens n w x = member w.sender (set_of n (says x 1 w.value))
 
 -- r is what the test t makes, with the rule and the characters of v, of all that the sets of senders o can show
 abbrev pub Makes : {A B : Type 0} {m : Ghosts B} → Voting B m → (Setting → Seen → A) → Heard → A → Type 0

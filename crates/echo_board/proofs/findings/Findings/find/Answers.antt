@@ -12,7 +12,7 @@ returns-in-One g c = λ x e.
     let few = c.approves-approves.ensures x e in
     found_one (g.R.FailureRule.meaning c.args.voting.now.rule.now) c.args.voting.now.characters x o c.args.voting.now.depth w c.in-One.is
     (elim c.if-vote-eq-ECHO.branch [
-      | then-vote-eq-ECHO k ↦ k.echoes-is ∙ k.echoes_due-echoes.ensures x e ∙ sym (cond-true _ _ _ (eq-eqb w.kind 1 k.if-vote-eq-ECHO.true))
+      | then-vote-eq-ECHO k ↦ k.echoes-is ∙ k.echoes-echoes.ensures c.args.voting.now.depth x e ∙ sym (cond-true _ _ _ (eq-eqb w.kind 1 k.if-vote-eq-ECHO.true))
       | else-vote-eq-ECHO k ↦ k.echoes-is ∙ sym (cond-false _ _ _ (ne_eqb w.kind 1 k.if-vote-eq-ECHO.false))
     ])
     (else_made o.second _ _ c.held_or-second.ensures (λ k. search (rules, tests)) few)
@@ -26,7 +26,7 @@ returns-in-Two g c = λ x e.
     let few = c.approves-approves.ensures x e in
     found_two (g.R.FailureRule.meaning c.args.voting.now.rule.now) c.args.voting.now.characters x o c.args.voting.now.depth w c.in-Two.is
     (elim c.if-vote-eq-ECHO.branch [
-      | then-vote-eq-ECHO k ↦ k.echoes-is ∙ k.echoes_due-echoes.ensures x e ∙ sym (cond-true _ _ _ (eq-eqb w.kind 1 k.if-vote-eq-ECHO.true))
+      | then-vote-eq-ECHO k ↦ k.echoes-is ∙ k.echoes-echoes.ensures c.args.voting.now.depth x e ∙ sym (cond-true _ _ _ (eq-eqb w.kind 1 k.if-vote-eq-ECHO.true))
       | else-vote-eq-ECHO k ↦ k.echoes-is ∙ sym (cond-false _ _ _ (ne_eqb w.kind 1 k.if-vote-eq-ECHO.false))
     ])
     (else_made o.second _ _ c.held_or-second.ensures (λ k. search (rules, tests)) few)
