@@ -1,4 +1,4 @@
--- What the tests 1 and 2 make due once a vote is counted, of the values that are not echoed, is all that is newly echoed. Assumes nothing but that nobody may fail.
+-- What the tests 1 and 2 make due once a vote is counted, of the values that are not echoed, is all that is newly echoed. Assumes nothing but that nobody may fail, and that the vote is of the crew and bears a value there is.
 use Rattle.std.proofs.Common.{◌≡◌, ℕ, suc, ◌-◌, ◌<◌, ◌≤◌, Bool, true, false, cond, not, ◌&&◌, ◌||◌, eqb, leb, List, [], ◌∷◌, Option, sym, refl, ap, ◌∙◌, subst, ⊎_elim, arith}
 use mathlib.Core.Bool.{and-false, or-false}
 use mathlib.Core.Path.{fun_ext}
