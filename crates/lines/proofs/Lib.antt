@@ -6,3 +6,4 @@ pub mod Writing
 pub mod Fields
 pub mod Meaning
 pub mod Readable
+mod ShortNumbers
