@@ -56,30 +56,30 @@ module _ (R : Rule) (k : ℕ) (x : Seen) (o : Findings) (d : Depth) (w : Vote) w
       (findings_ext p1 p2 p3 p4 p5 p6)
 
 -- ---- the step: what is remembered of the tests is what a history with w remembers
-module _ (S : Setting) (lawful : Lawful S.rule) (s : ℕ) (h : List Vote) (w : Vote) (within : w.sender < S.rule.crew) (low : w.value ≤ S.characters) (few : S.characters ≤ 8) where
+module _ (S : Setting) (lawful : Lawful S.rule) (covers : 1 ≤ S.rule.cover) (s : ℕ) (h : List Vote) (w : Vote) (within : w.sender < S.rule.crew) (low : w.value ≤ S.characters) (few : S.characters ≤ 8) where
   module _ (o f : Findings) (p : o ≡ held_of S s h) (q : f ≡ completing S w (seen (w ∷ h)) o) where
     abbrev B : Bool
     B = approves S w (seen (w ∷ h))
 
     second_kept : or_else o.second f.second ≡ said S (w ∷ h) 2
     unfolding said
-    second_kept = rw (q, p) (remembered h w (found S S.depth 2) B (second_due S lawful h w S.depth))
+    second_kept = rw (q, p) (remembered h w (found S S.depth 2) B (second_due S lawful covers h w S.depth))
 
     third_kept : or_else o.third f.third ≡ said S (w ∷ h) 3
     unfolding said
-    third_kept = rw (q, p) (remembered h w (found S S.depth 3) (B || eqb w.kind 2) (third_due S lawful h w S.depth))
+    third_kept = rw (q, p) (remembered h w (found S S.depth 3) (B || eqb w.kind 2) (third_due S lawful covers h w S.depth))
 
     fourth_kept : or_else o.fourth f.fourth ≡ said S (w ∷ h) 4
     unfolding said
-    fourth_kept = rw (q, p) (remembered h w (found S S.depth 4) (B || eqb w.kind 3) (fourth_due S lawful h w S.depth))
+    fourth_kept = rw (q, p) (remembered h w (found S S.depth 4) (B || eqb w.kind 3) (fourth_due S lawful covers h w S.depth))
 
     fifth_kept : or_else o.fifth f.fifth ≡ said S (w ∷ h) 5
     unfolding said
-    fifth_kept = rw (q, p) (remembered h w (found S S.depth 5) (B || eqb w.kind 4) (fifth_due S lawful h w S.depth))
+    fifth_kept = rw (q, p) (remembered h w (found S S.depth 5) (B || eqb w.kind 4) (fifth_due S lawful covers h w S.depth))
 
     decision_kept : or_else o.decision f.decision ≡ decided S (w ∷ h)
     unfolding decided
-    decision_kept = rw (q, p) (remembered h w (verdict S S.depth) (B || decides_by S.depth w.kind) (decision_due S lawful h w S.depth))
+    decision_kept = rw (q, p) (remembered h w (verdict S S.depth) (B || decides_by S.depth w.kind) (decision_due S lawful covers h w S.depth))
 
     echoes_made : f.echoes ≡ due S s h w
     echoes_made = rw (q, p) refl

@@ -89,13 +89,10 @@ module _ (S : Setting) (lawful : Lawful S.rule) (covers : 1 ≤ S.rule.cover) wh
   none_verdict Two = rw (none_lowest (λ v. not (eqb v 0) && ample_by S.rule (says (seen []) 5 v)) (λ v. rw (none_says 5 v) (and-false (not (eqb v 0)))), none_mixed, none_says 5 0)
 
 -- ---- a vote with which no value may have become approved
-module _ (S : Setting) (lawful : Lawful S.rule) (h : List Vote) (w : Vote) (same : approves S w (seen (w ∷ h)) ≡ false) where
-  covers : 1 ≤ S.rule.cover
-  covers = let k = eqb-false S.rule.cover 0 (or_parts _ _ same).0 in omega arith
-
+module _ (S : Setting) (lawful : Lawful S.rule) (covers : 1 ≤ S.rule.cover) (h : List Vote) (w : Vote) (same : approves S w (seen (w ∷ h)) ≡ false) where
   not_approved : (eqb w.kind 1 && ample_by S.rule (counted (w ∷ h) 1 w.value)) ≡ false
   unfolding approved
-  not_approved = (or_parts (eqb S.rule.cover 0) _ same).1
+  not_approved = same
 
   -- the senders of a value are those of before, or too few now and so before
   approved_at : (v : ℕ) → approved S (seen (w ∷ h)) v ≡ approved S (seen h) v
@@ -183,7 +180,7 @@ module _ {A : Type 0} (h : List Vote) (w : Vote) (t : Seen → Option A) where
   remembered true q = else_again (kept h) (t (seen (w ∷ h)))
   remembered false q = else_again (kept h) None ∙ sym (else_none (kept h)) ∙ sym (quiet_kept (q refl))
 
-module _ (S : Setting) (lawful : Lawful S.rule) (h : List Vote) (w : Vote) where
+module _ (S : Setting) (lawful : Lawful S.rule) (covers : 1 ≤ S.rule.cover) (h : List Vote) (w : Vote) where
   abbrev A : Bool
   A = approves S w (seen (w ∷ h))
 
@@ -193,28 +190,28 @@ module _ (S : Setting) (lawful : Lawful S.rule) (h : List Vote) (w : Vote) where
 
   pub second_due : (d : Depth) → A ≡ false → Quiet h w (found S d 2)
   unfolding found
-  second_due One e = quiet_second S lawful h w e
-  second_due Two e = quiet_second S lawful h w e
+  second_due One e = quiet_second S lawful covers h w e
+  second_due Two e = quiet_second S lawful covers h w e
 
   pub third_due : (d : Depth) → (A || eqb w.kind 2) ≡ false → Quiet h w (found S d 3)
   unfolding found
-  third_due One e = apart e (quiet_third S lawful h w)
-  third_due Two e = apart e (quiet_third S lawful h w)
+  third_due One e = apart e (quiet_third S lawful covers h w)
+  third_due Two e = apart e (quiet_third S lawful covers h w)
 
   pub fourth_due : (d : Depth) → (A || eqb w.kind 3) ≡ false → Quiet h w (found S d 4)
   unfolding found
   fourth_due One e = (refl, refl)
-  fourth_due Two e = apart e (quiet_outcome S lawful h w)
+  fourth_due Two e = apart e (quiet_outcome S lawful covers h w)
 
   pub fifth_due : (d : Depth) → (A || eqb w.kind 4) ≡ false → Quiet h w (found S d 5)
   unfolding found
   fifth_due One e = (refl, refl)
-  fifth_due Two e = apart e (quiet_fifth S lawful h w)
+  fifth_due Two e = apart e (quiet_fifth S lawful covers h w)
 
   pub decision_due : (d : Depth) → (A || decides_by d w.kind) ≡ false → Quiet h w (verdict S d)
   unfolding verdict
-  decision_due One e = apart e (λ few ne. let k = quiet_outcome S lawful h w few ne in (ap (decides 1) k.0, ap (decides 1) k.1))
+  decision_due One e = apart e (λ few ne. let k = quiet_outcome S lawful covers h w few ne in (ap (decides 1) k.0, ap (decides 1) k.1))
   decision_due Two e =
       let k = or_parts A (eqb w.kind 4 || eqb w.kind 5) e in
       let l = or_parts (eqb w.kind 4) (eqb w.kind 5) k.1 in
-      quiet_verdict S lawful h w k.0 (eqb-false w.kind 4 l.0) (eqb-false w.kind 5 l.1)
+      quiet_verdict S lawful covers h w k.0 (eqb-false w.kind 4 l.0) (eqb-false w.kind 5 l.1)

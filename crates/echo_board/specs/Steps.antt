@@ -12,9 +12,9 @@ use Rattle.vote.specs.News.{values}
 use Rattle.heard.specs.Due.{echo_due}
 use Rattle.echo_board.specs.declared.findings.Findings.{Findings}
 
--- With the vote w a value may have become approved: w is an echo, and its value is approved. Under a rule without a cover any value may be, before there is an echo of it.
+-- with the vote w a value may have become approved: w is an echo, and its value is approved
 abbrev pub approves : Setting → Vote → Seen → Bool
-approves S w x = S.rule.cover == 0 || (w.kind == 1 && approved S x w.value)
+approves S w x = w.kind == 1 && approved S x w.value
 
 -- the decision is made of votes of the kind c, and of what is approved
 abbrev pub decides_by : Depth → ℕ → Bool

@@ -53,7 +53,7 @@ fn approves<R: FailureRule>(heard: &Heard, voting: &Voting<R>, vote: Vote) -> bo
     requires { vote.value ≤ max_characters }
     ensures { (x : Seen) → heard.now ≡ heard_of (R.meaning voting.now.rule.now).crew x → result ≡ may_approve (setting_in voting.now) vote x }
 {
-    voting.rule.cover() == 0 || vote.kind == ECHO && heard.approved(voting, vote.value)
+    vote.kind == ECHO && heard.approved(voting, vote.value)
 }
 
 impl Findings {
