@@ -1,5 +1,5 @@
 -- A record that shows a history shows it with one vote more, once what the tests find is remembered. Assumes nothing.
-use Rattle.std.proofs.Common.{◌≡◌, ℕ, ◌<◌, ◌≤◌, Bool, true, false, cond, ◌||◌, eqb, List, ◌∷◌, Some, None, Option, MatchOption, sym, refl, ap, ◌∙◌, subst}
+use Rattle.std.proofs.Common.{◌≡◌, ℕ, ◌<◌, ◌≤◌, Bool, true, false, cond, ◌||◌, eqb, List, ◌∷◌, Some, None, Option, MatchOption, sym, refl, ap, ◌∙◌}
 use Rattle.quorum.specs.Rules.{Rule, Lawful}
 use Rattle.vote.specs.declared.Decision.{Decision}
 use Rattle.vote.specs.declared.Depth.{Depth}
@@ -9,16 +9,16 @@ use Rattle.vote.specs.History.{Seen, seen}
 use Rattle.vote.specs.Search.{or_else}
 use Rattle.vote.specs.Setting.{Setting}
 use Rattle.vote.proofs.Options.{else_none}
-use Rattle.agreement.specs.Echo.{approved, parted, decides, second, third, outcome, fifth, found, verdict, said, decided, posts, echo}
+use Rattle.agreement.specs.Echo.{second, found, verdict, said, decided, posts, echo}
 use Rattle.vote.specs.News.{values, news_of}
-use Rattle.heard.specs.Due.{echo_due}
+use Rattle.heard.specs.Due.{approves, echo_due, third_due, outcome_due, fifth_due}
 use Rattle.heard.specs.Shown.{heard_of, setting}
 use Rattle.echo_board.specs.declared.board.EchoRecord.{EchoRecord}
 use Rattle.echo_board.specs.declared.findings.Findings.{Findings}
 use Rattle.echo_board.specs.Records.{held_of, record_of}
 use Rattle.echo_board.proofs.Due.{due, due_kept, due_new}
-use Rattle.echo_board.proofs.Unmoved.{remembered, second_due, third_due, fourth_due, fifth_due, decision_due}
-use Rattle.echo_board.specs.Steps.{approves, decides_by, completing, remembering, fresh, news_in}
+use Rattle.echo_board.proofs.Unmoved.{remembered, second_found, third_found, fourth_found, fifth_found, decision_found}
+use Rattle.echo_board.specs.Steps.{at_two, decides_by, decision_due, completing, remembering, fresh, news_in}
 
 -- ---- what the record holds of the tests, and otherwise what those find that are due, at either depth
 pub else_made : {A P : Type 0} (s : Option A) {r : Option A} (b : Bool) {d : Bool} (t : Option A) → MatchOption s (cond b P (r ≡ None)) (λ y. r ≡ Some y) → (P → r ≡ t) → b ≡ d → r ≡ or_else s (cond d t None)
@@ -30,56 +30,54 @@ findings_ext : {a a' : ℕ} {b b' c c' d d' e e' : Option ℕ} {f f' : Option De
     → ◌≡◌ {A = Findings} record { echoes = a; second = b; third = c; fourth = d; fifth = e; decision = f } record { echoes = a'; second = b'; third = c'; fourth = d'; fifth = e'; decision = f' }
 findings_ext p q r s t u = rw (p, q, r, s, t, u)
 
-none_due : (o : Option ℕ) (b : Bool) → o ≡ or_else o (cond b None None)
-none_due o true = else_none o
-none_due o false = else_none o
+-- at depth 1 there is no word of kind 4 or 5
+none_at_one : (d : Depth) (o a : Option ℕ) → d ≡ One → o ≡ or_else o (at_two d a)
+none_at_one d o a q = rw q (else_none o)
+
+made_at_two : (d : Depth) (o a : Option ℕ) → d ≡ Two → or_else o a ≡ or_else o (at_two d a)
+made_at_two d o a q = rw q refl
 
 module _ (R : Rule) (k : ℕ) (x : Seen) (o : Findings) (d : Depth) (w : Vote) where
   abbrev A : Bool
   A = approves (setting R k d) w x
 
-  pub found_one : {a : ℕ} {b c : Option ℕ} {v : Option Decision} → d ≡ One → a ≡ cond (eqb w.kind 1) (values (echo_due (setting R k d) w o.echoes x)) 0 → b ≡ or_else o.second (cond A (second (setting R k One) x) None)
-      → c ≡ or_else o.third (cond (A || eqb w.kind 2) (third (setting R k One) x) None) → v ≡ or_else o.decision (cond (A || eqb w.kind 3) (decides 1 (outcome (setting R k One) x)) None)
-      → ◌≡◌ {A = Findings} record { echoes = a; second = b; third = c; fourth = o.fourth; fifth = o.fifth; decision = v } (completing (setting R k d) w x o)
-  unfolding found verdict approved parted
-  found_one {a} {b} {c} {v} q p1 p2 p3 p4 =
-      subst (λ (z : Depth). ◌≡◌ {A = Findings} record { echoes = a; second = b; third = c; fourth = o.fourth; fifth = o.fifth; decision = v } (completing (setting R k z) w x o)) (sym q)
-      (findings_ext p1 p2 p3 (none_due o.fourth (A || eqb w.kind 3)) (none_due o.fifth (A || eqb w.kind 4)) p4)
+  -- what is due of the decision, by what the depth z makes of it
+  abbrev Decides : Depth → Option Decision
+  Decides z = or_else o.decision (cond (A || decides_by z w.kind) (decision_due (setting R k d) z w x) None)
 
-  pub found_two : {a : ℕ} {b c e f : Option ℕ} {v : Option Decision} → d ≡ Two → a ≡ cond (eqb w.kind 1) (values (echo_due (setting R k d) w o.echoes x)) 0 → b ≡ or_else o.second (cond A (second (setting R k Two) x) None)
-      → c ≡ or_else o.third (cond (A || eqb w.kind 2) (third (setting R k Two) x) None) → e ≡ or_else o.fourth (cond (A || eqb w.kind 3) (outcome (setting R k Two) x) None)
-      → f ≡ or_else o.fifth (cond (A || eqb w.kind 4) (fifth (setting R k Two) x) None) → v ≡ or_else o.decision (cond (A || (eqb w.kind 4 || eqb w.kind 5)) (verdict (setting R k Two) Two x) None)
+  pub found_one : {a : ℕ} {b c : Option ℕ} {v : Option Decision} → d ≡ One → a ≡ cond (eqb w.kind 1) (values (echo_due (setting R k d) w o.echoes x)) 0 → b ≡ or_else o.second (cond A (second (setting R k d) x) None)
+      → c ≡ or_else o.third (cond (A || eqb w.kind 2) (third_due (setting R k d) w x) None) → v ≡ Decides One
+      → ◌≡◌ {A = Findings} record { echoes = a; second = b; third = c; fourth = o.fourth; fifth = o.fifth; decision = v } (completing (setting R k d) w x o)
+  found_one q p1 p2 p3 p4 = findings_ext p1 p2 p3 (none_at_one d o.fourth _ q) (none_at_one d o.fifth _ q) (p4 ∙ ap Decides (sym q))
+
+  pub found_two : {a : ℕ} {b c e f : Option ℕ} {v : Option Decision} → d ≡ Two → a ≡ cond (eqb w.kind 1) (values (echo_due (setting R k d) w o.echoes x)) 0 → b ≡ or_else o.second (cond A (second (setting R k d) x) None)
+      → c ≡ or_else o.third (cond (A || eqb w.kind 2) (third_due (setting R k d) w x) None) → e ≡ or_else o.fourth (cond (A || eqb w.kind 3) (outcome_due (setting R k d) w x) None)
+      → f ≡ or_else o.fifth (cond (A || eqb w.kind 4) (fifth_due (setting R k d) w x) None) → v ≡ Decides Two
       → ◌≡◌ {A = Findings} record { echoes = a; second = b; third = c; fourth = e; fifth = f; decision = v } (completing (setting R k d) w x o)
-  unfolding found approved parted
-  found_two {a} {b} {c} {e} {f} {v} q p1 p2 p3 p4 p5 p6 =
-      subst (λ (z : Depth). ◌≡◌ {A = Findings} record { echoes = a; second = b; third = c; fourth = e; fifth = f; decision = v } (completing (setting R k z) w x o)) (sym q)
-      (findings_ext p1 p2 p3 p4 p5 p6)
+  found_two q p1 p2 p3 p4 p5 p6 = findings_ext p1 p2 p3 (p4 ∙ made_at_two d o.fourth _ q) (p5 ∙ made_at_two d o.fifth _ q) (p6 ∙ ap Decides (sym q))
 
 -- ---- the step: what is remembered of the tests is what a history with w remembers
-module _ (S : Setting) (lawful : Lawful S.rule) (s : ℕ) (h : List Vote) (w : Vote) (within : w.sender < S.rule.crew) (low : w.value ≤ S.characters) (few : S.characters ≤ 8) where
+module _ (S : Setting) (lawful : Lawful S.rule) (covers : 1 ≤ S.rule.cover) (s : ℕ) (h : List Vote) (w : Vote) (within : w.sender < S.rule.crew) (low : w.value ≤ S.characters) (few : S.characters ≤ 8) where
   module _ (o f : Findings) (p : o ≡ held_of S s h) (q : f ≡ completing S w (seen (w ∷ h)) o) where
-    abbrev B : Bool
-    B = approves S w (seen (w ∷ h))
-
     second_kept : or_else o.second f.second ≡ said S (w ∷ h) 2
     unfolding said
-    second_kept = rw (q, p) (remembered h w (found S S.depth 2) B (second_due S lawful h w S.depth))
+    second_kept = rw (q, p) (remembered h w (found S S.depth 2) _ (second_found S lawful covers h w low S.depth))
 
     third_kept : or_else o.third f.third ≡ said S (w ∷ h) 3
     unfolding said
-    third_kept = rw (q, p) (remembered h w (found S S.depth 3) (B || eqb w.kind 2) (third_due S lawful h w S.depth))
+    third_kept = rw (q, p) (remembered h w (found S S.depth 3) _ (third_found S lawful covers h w low S.depth))
 
     fourth_kept : or_else o.fourth f.fourth ≡ said S (w ∷ h) 4
     unfolding said
-    fourth_kept = rw (q, p) (remembered h w (found S S.depth 4) (B || eqb w.kind 3) (fourth_due S lawful h w S.depth))
+    fourth_kept = rw (q, p) (remembered h w (found S S.depth 4) _ (fourth_found S lawful covers h w low S.depth))
 
     fifth_kept : or_else o.fifth f.fifth ≡ said S (w ∷ h) 5
     unfolding said
-    fifth_kept = rw (q, p) (remembered h w (found S S.depth 5) (B || eqb w.kind 4) (fifth_due S lawful h w S.depth))
+    fifth_kept = rw (q, p) (remembered h w (found S S.depth 5) _ (fifth_found S lawful covers h w low S.depth))
 
     decision_kept : or_else o.decision f.decision ≡ decided S (w ∷ h)
     unfolding decided
-    decision_kept = rw (q, p) (remembered h w (verdict S S.depth) (B || decides_by S.depth w.kind) (decision_due S lawful h w S.depth))
+    decision_kept = rw (q, p) (remembered h w (verdict S S.depth) _ (decision_found S lawful covers h w low S.depth))
 
     echoes_made : f.echoes ≡ due S s h w
     echoes_made = rw (q, p) refl

@@ -23,11 +23,11 @@ module _ (S : Setting) (s : ℕ) (h : List Vote) (w : Vote) (o : EchoRecord) (sh
   unfolding with_vote answer_of
   step_repeat e = (shown ∙ ap (record_of S s) (sym (cond-true _ _ _ e)), sym (cond-true _ _ _ e))
 
-  pub step_new : Lawful S.rule → w.sender < S.rule.crew → w.value ≤ S.characters → S.characters ≤ 8 → {y : Heard} {f g : Findings} {n : News} → repeats h w ≡ false → y ≡ heard_of S.rule.crew (seen (w ∷ h)) → f ≡ completing S w (seen (w ∷ h)) o.held
+  pub step_new : Lawful S.rule → 1 ≤ S.rule.cover → w.sender < S.rule.crew → w.value ≤ S.characters → S.characters ≤ 8 → {y : Heard} {f g : Findings} {n : News} → repeats h w ≡ false → y ≡ heard_of S.rule.crew (seen (w ∷ h)) → f ≡ completing S w (seen (w ∷ h)) o.held
       → g ≡ remembering o.held f → n ≡ news_in o.held f → (made y g ≡ record_of S s (with_vote h w)) × (Some n ≡ answer_of S s h w)
   unfolding with_vote answer_of record_of
-  step_new lawful within low few {f = f} e noted found after news =
+  step_new lawful covers within low few {f = f} e noted found after news =
       let held = held_in S s h o shown in (
-        ap₂ made noted (after ∙ remembers S lawful s h w within low few o.held f held found) ∙ ap (record_of S s) (sym (cond-false _ _ _ e)),
-        ap {B = Option News} Some (news ∙ tells S lawful s h w within low few o.held f held found) ∙ sym (cond-false _ _ _ e),
+        ap₂ made noted (after ∙ remembers S lawful covers s h w within low few o.held f held found) ∙ ap (record_of S s) (sym (cond-false _ _ _ e)),
+        ap {B = Option News} Some (news ∙ tells S lawful covers s h w within low few o.held f held found) ∙ sym (cond-false _ _ _ e),
       )

@@ -1,8 +1,9 @@
 // What is held of the seven tests, and what those without an answer find now.
-ghost use Rattle.std.specs.Prelude.{◌≡◌, ◌≤◌, ◌||◌, ◌==◌, cond, None, Some, MatchOption};
-ghost use Rattle.echo_board.specs.Steps.{approves as may_approve, completing, remembering, news_in};
+ghost use Rattle.std.specs.Prelude.{◌≡◌, ◌<◌, ◌≤◌, ◌||◌, ◌==◌, cond, None, Some, MatchOption};
+ghost use Rattle.echo_board.specs.Steps.{completing, remembering, news_in};
 ghost use Rattle.heard.specs.Limits.{max_characters};
 ghost use Rattle.heard.specs.Shown.{heard_of, setting_in};
+ghost use Rattle.quorum.specs.Limits.{max_crew};
 ghost use Rattle.vote.specs.History.{Seen};
 
 use crate::news::keep;
@@ -34,7 +35,7 @@ fn held_or<T, F: Fn() -> Option<T>>(held: Option<T>, due: bool, find: F) -> Opti
     }
 }
 
-// Whether a test of the votes of this kind, a number as in a Vote, is due: the vote is one of them, or with it a value may have become approved.
+// Whether a test of the votes of this kind, a number as in a Vote, is due: the vote is one of them, or makes its value approved.
 fn is_due(approves: bool, vote: Vote, kind: u8) -> bool
     ensures { result ≡ (approves || vote.kind == kind) }
 {
@@ -48,14 +49,6 @@ fn is_weighed(approves: bool, vote: Vote) -> bool
     is_due(approves, vote, 4) || vote.kind == 5
 }
 
-// Whether a value may have become approved with the vote, which is counted.
-fn approves<R: FailureRule>(heard: &Heard, voting: &Voting<R>, vote: Vote) -> bool
-    requires { vote.value ≤ max_characters }
-    ensures { (x : Seen) → heard.now ≡ heard_of (R.meaning voting.now.rule.now).crew x → result ≡ may_approve (setting_in voting.now) vote x }
-{
-    voting.rule.cover() == 0 || vote.kind == ECHO && heard.approved(voting, vote.value)
-}
-
 impl Findings {
     // Makes the tests of which there is no answer yet and that look at something that the vote, which is counted, has changed.
     // At depth 1 the outcome decides, and there are no kinds 4 and 5.
@@ -65,10 +58,10 @@ impl Findings {
         voting: &Voting<R>,
         vote: Vote,
     ) -> Findings
-        requires { vote.value ≤ max_characters }
+        requires { (vote.sender < max_crew) × (vote.value ≤ max_characters) }
         ensures { (x : Seen) → heard.now ≡ heard_of (R.meaning voting.now.rule.now).crew x → result ≡ completing (setting_in voting.now) vote x self.now }
     {
-        let approves = approves(heard, voting, vote);
+        let approves = heard.approves(voting, vote);
         let echoes = if vote.kind == ECHO {
             heard.echoes(voting, vote, self.echoes)
         } else {
@@ -76,7 +69,7 @@ impl Findings {
         };
         let second = held_or(self.second, approves, || heard.second(voting));
         let third = held_or(self.third, is_due(approves, vote, 2), || {
-            heard.third(voting)
+            heard.third(voting, vote)
         });
         match voting.depth {
             Depth::One => Findings {
@@ -86,7 +79,7 @@ impl Findings {
                 fourth: self.fourth,
                 fifth: self.fifth,
                 decision: held_or(self.decision, is_due(approves, vote, 3), || {
-                    decision(1, heard.outcome(voting))
+                    decision(1, heard.outcome(voting, vote))
                 }),
             },
             Depth::Two => Findings {
@@ -94,10 +87,10 @@ impl Findings {
                 second,
                 third,
                 fourth: held_or(self.fourth, is_due(approves, vote, 3), || {
-                    heard.outcome(voting)
+                    heard.outcome(voting, vote)
                 }),
                 fifth: held_or(self.fifth, is_due(approves, vote, 4), || {
-                    heard.fifth(voting)
+                    heard.fifth(voting, vote)
                 }),
                 decision: held_or(self.decision, is_weighed(approves, vote), || {
                     heard.verdict(voting)

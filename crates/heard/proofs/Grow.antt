@@ -62,7 +62,7 @@ tally_more n f v j low h = ⊎_elim old new (cases_Bool (given (f j)))
         cond-false _ _ _ (is_in ∙ q)
         ∙ ap₂ (λ (a : List ℕ) (b : ℕ). record { values = a; all = b })
         (board_more n (λ u i. is u (f i)) (λ u i. is u (or_else (f i) (when (eqb j i) v))) v j low h
-        (λ i. is_else_same (f i) (eqb j i) v (fresh q i)) (λ u i ne. is_else_other (f i) (eqb j i) u v ne (fresh q i)))
+        (λ i. is_else_same (f i) (eqb j i) v (fresh q i)) (λ u i ne. is_else_other (f i) (eqb j i) u v ne))
         (sym (set_of_insert n (λ i. given (f i)) j h) ∙ sym (set_of_ext n _ _ (λ i l. given_else_when (f i) (eqb j i) v)))
 
 pub nobody_is : (n : ℕ) → record { values = replicate 9 0; all = 0 } ≡ tally_of n (λ i. None)

@@ -1,20 +1,23 @@
 -- Each test, from what is asked of the sets of senders: its parts put together are the test's definition. Assumes nothing.
-use Rattle.std.proofs.Common.{◌≡◌, ℕ, suc, ◌+◌, ◌-◌, ◌<◌, ◌≤◌, Bool, true, false, cond, not, ◌&&◌, eqb, leb, get_or, Some, None, Option, sym, ap, ◌∙◌, ap₂, arith}
+use Rattle.std.proofs.Common.{◌≡◌, ℕ, suc, ◌+◌, ◌-◌, ◌<◌, ◌≤◌, Bool, true, false, cond, not, ◌&&◌, eqb, leb, get_or, Some, None, Option, sym, refl, ap, ◌∙◌, ap₂, arith}
+use Rattle.std.proofs.lemmas.Bool.{eq-eqb, ne_eqb, cond-true, cond-false}
 use Rattle.quorum.specs.declared.rule.FailureRule.{Ghosts}
 use Rattle.quorum.specs.Rules.{Rule, ample, ample_by}
 use Rattle.vote.specs.declared.Decision.{Decision}
 use Rattle.vote.specs.declared.Depth.{Depth}
 use Rattle.vote.specs.declared.Depth.TheVariants.{Two}
+use Rattle.vote.specs.declared.Vote.{Vote}
 use Rattle.vote.specs.declared.voting.Voting.{Voting}
 use Rattle.vote.specs.History.{Seen, says, speaks}
 use Rattle.vote.specs.Search.{seek, or_else, when, given, is}
 use Rattle.vote.specs.Setting.{lowest, decision_on}
-use Rattle.agreement.specs.Echo.{approved, two_approved, mixed, second, third, outcome, fifth, backed, decides, verdict}
+use Rattle.agreement.specs.Echo.{approved, two_approved, mixed, second, backed, decides, verdict}
 use Rattle.vote.proofs.Seeking.{two_none, two_some}
 use Rattle.heard.specs.declared.counted.Heard.{Heard}
 use Rattle.heard.specs.Shown.{heard_of, setting, tally_of}
+use Rattle.heard.specs.Due.{shared_due, third_due, outcome_due, fifth_due}
 use Rattle.heard.specs.Masks.{beyond, ample_from, backed_in}
-use Rattle.heard.proofs.Made.{ample_echo, ample_all, lowest_echo, lowest_approved, shared_value, shared_character, backed_is}
+use Rattle.heard.proofs.Made.{ample_echo, ample_all, lowest_echo, lowest_approved, shared_character, backed_is}
 use Rattle.heard.proofs.Read.{first_of, value_at}
 
 -- ---- under what a voting settles
@@ -26,10 +29,6 @@ module _ {B : Type 0} {m : Ghosts B} (V : Voting B m) where
   k = V.characters
 
   module _ (o : Heard) (d : Depth) (x : Seen) (e : o ≡ heard_of R.crew x) where
-    pub approved_made : (v : ℕ) → v ≤ 8 → {r : Bool} → r ≡ ample R (get_or o.echoes v 0) → r ≡ approved (setting R k d) x v
-    unfolding approved
-    approved_made v h p = p ∙ ample_echo V o x e v h
-
     pub second_made : {r : Option ℕ} → r ≡ seek (suc k) (ample_from R o.echoes 0) → r ≡ second (setting R k d) x
     unfolding second lowest approved
     second_made p = p ∙ lowest_approved V o x e
@@ -65,25 +64,39 @@ module _ {B : Type 0} {m : Ghosts B} (V : Voting B m) where
     abbrev Shared : ℕ → ℕ → Option ℕ → Type 0
     Shared c from s = (f : ℕ → Option ℕ) → get_or o.first (c - 1) beyond ≡ tally_of R.crew f → s ≡ seek (suc k) (λ v. leb from v && ample_by R (λ i. is v (f i)))
 
-    pub value_made : (c : ℕ) → 1 ≤ c → c ≤ 5 → (s : Option ℕ) → Shared c 0 s → s ≡ lowest (setting R k d) (λ v. ample_by R (says x c v))
-    unfolding lowest
-    value_made c one five s p = p (x.first c) (first_of R.crew o x e c one five) ∙ shared_value V o x e c
-
     pub character_made : (c : ℕ) → 1 ≤ c → c ≤ 5 → (s : Option ℕ) → Shared c 1 s → s ≡ lowest (setting R k d) (λ v. not (eqb v 0) && ample_by R (says x c v))
     unfolding lowest
     character_made c one five s p = p (x.first c) (first_of R.crew o x e c one five) ∙ shared_character V o x e c
 
-    pub third_made : {r t : Option ℕ} (s : Option ℕ) {b : Bool} → r ≡ or_else s t → Shared 2 0 s → t ≡ when b 0 → b ≡ two_approved (setting R k d) x → r ≡ third (setting R k d) x
-    unfolding third
-    third_made v p q s t = p ∙ ap₂ or_else (value_made 2 (omega arith) (omega arith) v q) (s ∙ ap (λ (b : Bool). when b 0) t)
+    -- ---- the value of the vote w in the kind c
+    module _ (w : Vote) where
+      pub shared_other : (c : ℕ) → (w.kind ≡ c → ⊥) → None ≡ shared_due (setting R k d) w c x
+      shared_other c ne = rw (ne_eqb w.kind c ne) refl
 
-    pub outcome_made : {r t : Option ℕ} (s : Option ℕ) {b : Bool} → r ≡ or_else t s → Shared 3 0 s → t ≡ when b 0 → b ≡ AllLate 2 → r ≡ outcome (setting R k d) x
-    unfolding outcome
-    outcome_made v p q s t = p ∙ ap₂ or_else (s ∙ ap (λ (b : Bool). when b 0) (late_made 2 (omega arith) t)) (value_made 3 (omega arith) (omega arith) v q)
+      pub shared_made : (c : ℕ) → 1 ≤ c → c ≤ 5 → w.value ≤ 8 → w.kind ≡ c → {b : Bool} {r : Option ℕ} → b ≡ ample R (get_or (get_or o.first (c - 1) beyond).values w.value 0) → r ≡ when b w.value → r ≡ shared_due (setting R k d) w c x
+      shared_made c one five low same p q =
+          let a = value_at R.crew o x e (c - 1) w.value (omega arith) low in
+          let n : suc (c - 1) ≡ c = omega arith in
+          q ∙ ap (λ (b : Bool). when b w.value) (p ∙ ap (ample R) a ∙ ap (λ (z : ℕ). ample_by R (says x z w.value)) n ∙ ap (λ (t : Bool). t && ample_by R (says x c w.value)) (sym (eq-eqb w.kind c same)))
 
-    pub fifth_made : {r t : Option ℕ} (s : Option ℕ) {b : Bool} → r ≡ or_else s t → Shared 4 0 s → t ≡ when b 0 → b ≡ AllLate 3 → r ≡ fifth (setting R k d) x
-    unfolding fifth
-    fifth_made v p q s t = p ∙ ap₂ or_else (value_made 4 (omega arith) (omega arith) v q) (s ∙ ap (λ (b : Bool). when b 0) (late_made 3 (omega arith) t))
+      pub third_shared : w.kind ≡ 2 → {r : Option ℕ} → r ≡ shared_due (setting R k d) w 2 x → r ≡ third_due (setting R k d) w x
+      third_shared same p = p ∙ sym (cond-true _ _ _ (eq-eqb w.kind 2 same))
+
+      pub third_two : (w.kind ≡ 2 → ⊥) → {r : Option ℕ} {b : Bool} → r ≡ when b 0 → b ≡ two_approved (setting R k d) x → r ≡ third_due (setting R k d) w x
+      third_two ne p q = p ∙ ap (λ (b : Bool). when b 0) q ∙ sym (cond-false _ _ _ (ne_eqb w.kind 2 ne))
+
+      pub outcome_late : true ≡ AllLate 2 → Some 0 ≡ outcome_due (setting R k d) w x
+      outcome_late p = rw (sym (late_made 2 (omega arith) p)) refl
+
+      pub outcome_shared : false ≡ AllLate 2 → {r : Option ℕ} → r ≡ shared_due (setting R k d) w 3 x → r ≡ outcome_due (setting R k d) w x
+      outcome_shared p q = rw (sym (late_made 2 (omega arith) p)) q
+
+      pub fifth_shared : (s : Option ℕ) → s ≡ shared_due (setting R k d) w 4 x → (s ≡ None → ⊥) → s ≡ fifth_due (setting R k d) w x
+      fifth_shared None p some = absurd (some refl)
+      fifth_shared (Some v) p some = rw (sym p) refl
+
+      pub fifth_late : {r s : Option ℕ} {b : Bool} → s ≡ shared_due (setting R k d) w 4 x → s ≡ None → b ≡ AllLate 3 → r ≡ when b 0 → r ≡ fifth_due (setting R k d) w x
+      fifth_late p q b t = rw (sym p, q) (t ∙ ap (λ (a : Bool). when a 0) (late_made 3 (omega arith) b))
 
     -- the middle way of the test 7
     abbrev Held : Option Decision

@@ -1,11 +1,12 @@
--- Which echoes a vote makes due as it is counted. Assumes nothing.
-use Rattle.std.specs.Prelude.{ℕ, not, ◌&&◌, ◌||◌, Bool, ◌==◌}
+-- What a vote makes due as it is counted, where it was not due before. Assumes nothing.
+use Rattle.std.specs.Prelude.{ℕ, cond, not, ◌&&◌, ◌||◌, Bool, Option, ◌==◌}
 use Rattle.quorum.specs.Sets.{member, set_of}
-use Rattle.quorum.specs.Rules.{strong_by}
+use Rattle.quorum.specs.Rules.{strong_by, ample_by}
 use Rattle.vote.specs.declared.Vote.{Vote}
-use Rattle.vote.specs.History.{Seen, says}
+use Rattle.vote.specs.History.{Seen, says, speaks}
+use Rattle.vote.specs.Search.{or_else, when}
 use Rattle.vote.specs.Setting.{Setting}
-use Rattle.agreement.specs.Echo.{parted}
+use Rattle.agreement.specs.Echo.{approved, two_approved, mixed, parted}
 
 -- of a crew of n, the opening of w's sender, which is its first vote of kind 1, bears the value of w
 abbrev pub opens : ℕ → Vote → Seen → Bool
@@ -15,3 +16,21 @@ opens n w x = member w.sender (set_of n (says x 1 w.value))
 -- only where w is its sender's opening, as else the openings are those of before.
 abbrev pub echo_due : Setting → Vote → ℕ → Seen → ℕ → Bool
 echo_due S w echoed x v = not (member v echoed) && ((v == w.value && strong_by S.rule (x.echo v)) || (v == 0 && (opens S.rule.crew w x && parted S x)))
+
+-- With the vote w a value becomes approved: w is an echo, and the senders of its value are ample, but not without the sender of w.
+abbrev pub approves : Setting → Vote → Seen → Bool
+approves S w x = w.kind == 1 && (approved S x w.value && not (ample_by S.rule (λ i. x.echo w.value i && not (w.sender == i))))
+
+-- the value of w, where w is of the kind c and the senders of its value are ample, as no other value has more senders
+abbrev pub shared_due : Setting → Vote → ℕ → Seen → Option ℕ
+shared_due S w c x = when (w.kind == c && ample_by S.rule (says x c w.value)) w.value
+
+-- What is due of the tests 4 to 6, each where it found nothing before. A vote of kind 2 makes no value approved, and one of another kind leaves the senders of kind 2 as they were.
+abbrev pub third_due : Setting → Vote → Seen → Option ℕ
+third_due S w x = cond (w.kind == 2) (shared_due S w 2 x) (when (two_approved S x) 0)
+
+abbrev pub outcome_due : Setting → Vote → Seen → Option ℕ
+outcome_due S w x = or_else (when (mixed S x && ample_by S.rule (speaks x 3)) 0) (shared_due S w 3 x)
+
+abbrev pub fifth_due : Setting → Vote → Seen → Option ℕ
+fifth_due S w x = or_else (shared_due S w 4 x) (when (mixed S x && ample_by S.rule (speaks x 4)) 0)

@@ -1,15 +1,15 @@
 // Tests 1 to 6: which words are to be posted for what is counted.
 ghost use Rattle.std.specs.Prelude.{◌≡◌, ℕ, ◌≤◌};
-ghost use Rattle.heard.specs.Due.{echo_due, opens as opens_in};
-ghost use Rattle.heard.specs.Limits.{max_characters};
+ghost use Rattle.heard.specs.Due.{echo_due, opens as opens_in, shared_due, third_due, outcome_due, fifth_due};
+ghost use Rattle.heard.specs.Limits.{max_characters, max_kind, KindUpTo};
 ghost use Rattle.heard.specs.Shown.{Makes, heard_of};
-ghost use Rattle.agreement.specs.Echo.{parted as is_parted, second as second_of, third as third_of, outcome as outcome_of, fifth as fifth_of};
+ghost use Rattle.agreement.specs.Echo.{parted as is_parted, second as second_of};
 ghost use Rattle.vote.specs.History.{Seen};
 ghost use Rattle.vote.specs.News.{values};
 
 use crate::counted::Heard;
-use crate::search::{lowest_ample, lowest_shared, parted_among};
-use quorum::{FailureRule, has, strong};
+use crate::search::{lowest_ample, parted_among};
+use quorum::{FailureRule, ample, has, strong};
 use vote::{Vote, Voting};
 
 impl Heard {
@@ -48,29 +48,57 @@ impl Heard {
         lowest_ample(voting, &self.echoes, 0)
     }
 
-    // Test 4: the value of kind 3.
-    pub fn third<R: FailureRule>(&self, voting: &Voting<R>) -> Option<u8>
-        ensures { Makes voting.now third_of self.now result }
+    // The vote's value, where the vote is of this kind, a number as in a Vote, and the senders of its value are ample.
+    // To ask this of no other value takes some 50 instructions less for each line of `bench`: where a test so far found nothing, the senders of the others are too few.
+    #[tactic(auto, using(crate::proofs::Tested::shared_other))]
+    pub(crate) fn shared<R: FailureRule>(
+        &self,
+        voting: &Voting<R>,
+        vote: Vote,
+        kind: u8,
+    ) -> Option<u8>
+        requires { KindUpTo max_kind kind × (vote.value ≤ max_characters) }
+        ensures { Makes voting.now (λ S. shared_due S vote kind) self.now result }
     {
-        let shared = lowest_shared(voting, &self.first[1], 0);
-        shared.or(self.two_approved(voting).then_some(0))
+        if vote.kind != kind {
+            return None;
+        }
+        let senders = self.first[kind as usize - 1].values[vote.value as usize];
+        ample(voting.rule, senders).then_some(vote.value)
     }
 
-    // Test 5: the outcome, which depth 1 decides and kind 4 bears at depth 2.
-    pub fn outcome<R: FailureRule>(&self, voting: &Voting<R>) -> Option<u8>
-        ensures { Makes voting.now outcome_of self.now result }
+    // Test 4, so far without an answer: the value of kind 3.
+    #[tactic(auto, using(crate::proofs::Tested::third_two))]
+    pub fn third<R: FailureRule>(&self, voting: &Voting<R>, vote: Vote) -> Option<u8>
+        requires { vote.value ≤ max_characters }
+        ensures { Makes voting.now (λ S. third_due S vote) self.now result }
     {
-        let nothing = self.late(voting, self.first[2].all);
-        let value = lowest_shared(voting, &self.first[2], 0);
-        nothing.then_some(0).or(value)
+        if vote.kind == 2 {
+            return self.shared(voting, vote, 2);
+        }
+        self.two_approved(voting).then_some(0)
     }
 
-    // Test 6: the value of kind 5.
-    pub fn fifth<R: FailureRule>(&self, voting: &Voting<R>) -> Option<u8>
-        ensures { Makes voting.now fifth_of self.now result }
+    // Test 5, so far without an answer: the outcome, which depth 1 decides and kind 4 bears at depth 2.
+    #[tactic(auto, using(crate::proofs::Tested::outcome_late))]
+    pub fn outcome<R: FailureRule>(&self, voting: &Voting<R>, vote: Vote) -> Option<u8>
+        requires { vote.value ≤ max_characters }
+        ensures { Makes voting.now (λ S. outcome_due S vote) self.now result }
     {
-        let nothing = self.late(voting, self.first[3].all);
-        let value = lowest_shared(voting, &self.first[3], 0);
-        value.or(nothing.then_some(0))
+        if self.late(voting, self.first[2].all) {
+            return Some(0);
+        }
+        self.shared(voting, vote, 3)
+    }
+
+    // Test 6, so far without an answer: the value of kind 5.
+    pub fn fifth<R: FailureRule>(&self, voting: &Voting<R>, vote: Vote) -> Option<u8>
+        requires { vote.value ≤ max_characters }
+        ensures { Makes voting.now (λ S. fifth_due S vote) self.now result }
+    {
+        match self.shared(voting, vote, 4) {
+            None => self.late(voting, self.first[3].all).then_some(0),
+            shared => shared,
+        }
     }
 }

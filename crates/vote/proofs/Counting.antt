@@ -5,7 +5,7 @@ use Rattle.std.proofs.lemmas.Bool.{false≢true, and_parts, and_from, or_cases, 
 use Rattle.vote.specs.declared.Vote.{Vote}
 use Rattle.vote.specs.History.{seen, of_kind, counted, first, says, speaks}
 use Rattle.vote.specs.Search.{given}
-use Rattle.vote.proofs.Options.{given_found, given_from, is_found, is_from, holds_none, else_cases, else_left, else_right, else_keeps, else_none, when_found, when_from}
+use Rattle.vote.proofs.Options.{given_found, given_from, is_found, is_from, is_else_other, holds_none, else_cases, else_left, else_right, else_keeps, else_none, when_found, when_from}
 
 -- ---- one vote more
 pub counted_more : (w : Vote) (h : List Vote) (c v i : ℕ) → counted h c v i ≡ true → counted (w ∷ h) c v i ≡ true
@@ -20,6 +20,11 @@ first_more w h c i v p = else_keeps _ p
 pub first_other : (w : Vote) (h : List Vote) (c : ℕ) → (w.kind ≡ c → ⊥) → first (w ∷ h) c ≡ first h c
 unfolding first
 first_other w h c ne = fun_ext (λ i. rw (ne_eqb w.kind c ne) (sym (else_none (first h c i))))
+
+-- a vote with another value leaves the senders of a value as they were
+pub says_other : (w : Vote) (h : List Vote) (c v : ℕ) → (w.value ≡ v → ⊥) → says (seen (w ∷ h)) c v ≡ says (seen h) c v
+unfolding first
+says_other w h c v ne = fun_ext (λ i. sym (is_else_other (first h c i) (of_kind c i w) v w.value (λ z. ne (sym z))))
 
 pub says_more : (w : Vote) (h : List Vote) (c v i : ℕ) → says (seen h) c v i ≡ true → says (seen (w ∷ h)) c v i ≡ true
 says_more w h c v i p = is_from v (first_more w h c i v (is_found v _ p))

@@ -71,7 +71,15 @@ else_twice (Some a) x = refl
 else_twice None (Some b) = refl
 else_twice None None = refl
 
+pub else_absent : {A : Type 0} (x y : Option A) → or_else x y ≡ None → (x ≡ None) × (y ≡ None)
+else_absent None y h = (refl, h)
+else_absent (Some v) y h = holds_none (sym h)
+
 -- ---- a value under a test
+pub when_absent : {A : Type 0} (b : Bool) (x : A) → when b x ≡ None → b ≡ false
+when_absent true x h = holds_none (sym h)
+when_absent false x h = refl
+
 pub when_found : {A : Type 0} (b : Bool) (x v : A) → when b x ≡ Some v → (b ≡ true) × (v ≡ x)
 when_found true x v h = (refl, cc)
 when_found false x v h = (cc, cc)
@@ -95,7 +103,8 @@ is_else_same None false v f = refl
 is_else_same (Some u) true v f = clash refl (f refl)
 is_else_same (Some u) false v f = sym (or-false (eqb v u))
 
-pub is_else_other : (o : Option ℕ) (b : Bool) (u v : ℕ) → (u ≡ v → ⊥) → (b ≡ true → given o ≡ false) → is u o ≡ is u (or_else o (when b v))
-is_else_other None true u v ne f = sym (ne_eqb u v ne)
-is_else_other None false u v ne f = refl
-is_else_other (Some w) b u v ne f = refl
+-- whatever is held, another value is held as before
+pub is_else_other : (o : Option ℕ) (b : Bool) (u v : ℕ) → (u ≡ v → ⊥) → is u o ≡ is u (or_else o (when b v))
+is_else_other None true u v ne = sym (ne_eqb u v ne)
+is_else_other None false u v ne = refl
+is_else_other (Some w) b u v ne = refl

@@ -65,6 +65,13 @@ here (suc n) m p l t f =
     (λ (e : m < n). rw (here n m p e t f))
     (eq-or-lt_of_le (le_of_suc-le-suc l))
 
+-- where no number but u can pass, u is asked alone
+pub seek_own : (n : ℕ) (p : ℕ → Bool) (u : ℕ) → u < n → ((v : ℕ) → v < n → (v ≡ u → ⊥) → p v ≡ false) → seek n p ≡ when (p u) u
+seek_own n p u l f =
+    ⊎_elim (λ (t : p u ≡ true). rw t (here n u p l t (λ v h. f v (omega arith) (omega arith))))
+    (λ (t : p u ≡ false). rw t (nothing_below n p (λ v h. ⊎_elim (λ (z : v ≡ u). ap p z ∙ t) (f v h) (cases_eq v u))))
+    (cases_Bool (p u))
+
 pub seek_first : (k : ℕ) (p : ℕ → Bool) (r : Option ℕ)
     → MatchOption r ((v : ℕ) → 0 ≤ v → v < k + 1 → v ≤ k → p v ≡ false) (λ i. (0 ≤ i) × (i < k + 1) × (i ≤ k → p i ≡ true) × ((v : ℕ) → 0 ≤ v → v < i → v ≤ k → p v ≡ false))
     → r ≡ seek (suc k) p

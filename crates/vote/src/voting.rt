@@ -6,13 +6,14 @@ ghost use Rattle.vote.specs.Search.{seek};
 use crate::Depth;
 use quorum::FailureRule;
 
-// The failure rule, how many characters there are, and the depth.
+// The failure rule, how many characters there are, and the depth. The rule has a cover, so that the empty set is not ample.
 #[derive(Drop)]
 pub struct Voting<'a, R: FailureRule> {
     pub rule: &'a R,
     pub characters: u8,
     pub depth: Depth,
     ghost few: { characters ≤ max_characters },
+    ghost covers: { 1 ≤ (R.meaning rule.now).cover },
 }
 
 impl<'a, R: FailureRule> Voting<'a, R> {

@@ -26,6 +26,6 @@ returns g c =
           let shown = heard_in S s h c.args.self.now e in
           let new : repeats h c.args.vote ≡ false = sym (c.repeats.ensures S.rule.crew h (omega arith) shown) ∙ c.if-repeats.false in
           let noted : c.note.new.self ≡ heard_of S.rule.crew (seen (c.args.vote ∷ h)) = c.note.ensures S.rule.crew h (omega arith) shown in
-          step_new S s h c.args.vote c.args.self.now e (g.met.R.FailureRule.lawful c.args.voting.now.rule.now) (omega arith) (omega arith) (omega arith) new noted (c.find-found.ensures (seen (c.args.vote ∷ h)) noted) c.remember.ensures.after c.remember.ensures.news;
+          step_new S s h c.args.vote c.args.self.now e (g.met.R.FailureRule.lawful c.args.voting.now.rule.now) (omega arith) (omega arith) (omega arith) (omega arith) new noted (c.find-found.ensures (seen (c.args.vote ∷ h)) noted) c.remember.ensures.after c.remember.ensures.news;
       keeps = board_keeps S (g.met.R.FailureRule.lawful c.args.voting.now.rule.now);
     }

@@ -9,7 +9,7 @@ pub returns-in-One : goal.returns-in-One
 returns-in-One g c = λ x e.
     let o = c.args.self.now in
     let w = c.args.vote in
-    let few = c.approves-approves.ensures x e in
+    let few = c.approves-approves.ensures c.args.voting.now.depth x e in
     found_one (g.R.FailureRule.meaning c.args.voting.now.rule.now) c.args.voting.now.characters x o c.args.voting.now.depth w c.in-One.is
     (elim c.if-vote-eq-ECHO.branch [
       | then-vote-eq-ECHO k ↦ k.echoes-is ∙ k.echoes-echoes.ensures c.args.voting.now.depth x e ∙ sym (cond-true _ _ _ (eq-eqb w.kind 1 k.if-vote-eq-ECHO.true))
@@ -23,7 +23,7 @@ pub returns-in-Two : goal.returns-in-Two
 returns-in-Two g c = λ x e.
     let o = c.args.self.now in
     let w = c.args.vote in
-    let few = c.approves-approves.ensures x e in
+    let few = c.approves-approves.ensures c.args.voting.now.depth x e in
     found_two (g.R.FailureRule.meaning c.args.voting.now.rule.now) c.args.voting.now.characters x o c.args.voting.now.depth w c.in-Two.is
     (elim c.if-vote-eq-ECHO.branch [
       | then-vote-eq-ECHO k ↦ k.echoes-is ∙ k.echoes-echoes.ensures c.args.voting.now.depth x e ∙ sym (cond-true _ _ _ (eq-eqb w.kind 1 k.if-vote-eq-ECHO.true))

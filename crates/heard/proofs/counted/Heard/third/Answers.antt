@@ -1,7 +1,6 @@
--- By the definition of the test 4. Assumes nothing.
-use Rattle.heard.proofs.Tested.{third_made}
+-- By the definition of what is due of the test 4. Assumes nothing.
+use Rattle.heard.proofs.Tested.{third_shared}
 use Rattle.heard.proofs.counted.Heard.third.Goals as goal
 
-pub returns : goal.returns
-returns g c = λ d x e.
-    third_made c.args.voting.now c.args.self.now d x e c.lowest_shared-shared.result c.or.ensures c.lowest_shared-shared.ensures c.then_some.ensures (c.two_approved.ensures d x e)
+pub returns-then-vote-eq2 : goal.returns-then-vote-eq2
+returns-then-vote-eq2 g c = λ d x e. third_shared c.args.voting.now c.args.self.now d x e c.args.vote c.if-vote-eq2.true (c.shared.ensures d x e)
