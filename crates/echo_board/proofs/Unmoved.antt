@@ -19,7 +19,7 @@ use Rattle.vote.proofs.Options.{holds_none, else_absent, when_absent, else_none}
 use Rattle.vote.proofs.Counting.{vote_is, first_other, says_other, counted_more}
 use Rattle.vote.proofs.Seeking.{set_of_none, nothing_below, seek_from, seek_own}
 use Rattle.agreement.specs.Echo.{approved, two_approved, mixed, second, third, outcome, fifth, backed, decides, found, verdict}
-use Rattle.heard.specs.Due.{approves, shared_due, third_due, outcome_due, fifth_due}
+use Rattle.heard.specs.Due.{approves, shared_due, third_due, outcome_due, fifth_due, held, verdict_due}
 use Rattle.echo_board.specs.Steps.{decides_by, at_two, decision_due}
 
 -- what is due of a test once w is counted: all that the test finds, where it found nothing before
@@ -34,6 +34,11 @@ due_where false t a p f = f refl
 decides_where : (g : ℕ) (b : Bool) (o : Option ℕ) → decides g (cond b o None) ≡ cond b (decides g o) None
 decides_where g true o = refl
 decides_where g false o = refl
+
+-- 0 is decided at no grade
+decides_zero : (b : Bool) (v : ℕ) → v ≡ 0 → decides 2 (when b v) ≡ when b (decision_on 0 0)
+decides_zero true v z = rw z refl
+decides_zero false v z = refl
 
 decides_absent : (g : ℕ) (o : Option ℕ) → decides g o ≡ None → o ≡ None
 decides_absent g None e = refl
@@ -240,8 +245,29 @@ module _ (S : Setting) (lawful : Lawful S.rule) (covers : 1 ≤ S.rule.cover) (h
       let l = or_parts (eqb w.kind 4) (eqb w.kind 5) k.1 in
       verdict_same k.0 (eqb-false w.kind 4 l.0) (eqb-false w.kind 5 l.1)
 
-  verdict_made : Due h w (verdict S Two) (cond (A || (eqb w.kind 4 || eqb w.kind 5)) (verdict S Two X) None)
-  verdict_made = (none_verdict S lawful covers Two, λ e. due_where (A || (eqb w.kind 4 || eqb w.kind 5)) _ _ refl (λ f. verdict_of f ∙ e))
+  -- the senders of 0 are asked where w may be one of them
+  zero_of_kind : ample_by S.rule (says (seen h) 5 0) ≡ false → w.value ≡ 0 → ample_by S.rule (says X 5 0) ≡ (eqb w.kind 5 && ample_by S.rule (says X 5 w.value))
+  zero_of_kind few z =
+      ⊎_elim (λ (q : w.kind ≡ 5). rw (eq-eqb w.kind 5 q, z) refl)
+      (λ (q : w.kind ≡ 5 → ⊥). rw (ne_eqb w.kind 5 q) (ap (λ (f : ℕ → Option ℕ). ample_by S.rule (λ i. is 0 (f i))) (first_other w h 5 q) ∙ few))
+      (cases_eq w.kind 5)
+
+  verdict_now : verdict S Two (seen h) ≡ None → verdict S Two X ≡ verdict_due S w X
+  unfolding verdict
+  verdict_now e =
+      let full = else_absent (decides 2 (lowest S (λ v. not (eqb v 0) && ample_by S.rule (says (seen h) 5 v)))) _ e in
+      let nothing = else_absent (held S (seen h)) _ full.1 in
+      let few = when_absent (ample_by S.rule (says (seen h) 5 0)) _ nothing.1 in
+      let own = own_found 5 (λ v. not (eqb v 0)) (decides_absent 2 _ full.0) in
+      ⊎_elim
+      (λ (z : w.value ≡ 0).
+      rw (own, zero_of_kind few z, eq-eqb w.value 0 z, and-false (eqb w.kind 5)) (ap (or_else (held S X)) (sym (decides_zero (eqb w.kind 5 && ample_by S.rule (says X 5 w.value)) w.value z))))
+      (λ (z : w.value ≡ 0 → ⊥).
+      rw (own, ap (ample_by S.rule) (says_other w h 5 0 z) ∙ few, ne_eqb w.value 0 z) (ap (or_else (decides 2 (shared_due S w 5 X))) (sym (else_none (held S X)))))
+      (cases_eq w.value 0)
+
+  verdict_made : Due h w (verdict S Two) (cond (A || (eqb w.kind 4 || eqb w.kind 5)) (verdict_due S w X) None)
+  verdict_made = (none_verdict S lawful covers Two, λ e. due_where (A || (eqb w.kind 4 || eqb w.kind 5)) _ _ (verdict_now e) (λ f. verdict_of f ∙ e))
 
   -- ---- and what is posted and decided by them at a depth
   pub second_found : (d : Depth) → Due h w (found S d 2) (cond A (second S X) None)

@@ -8,9 +8,9 @@ use Rattle.vote.specs.declared.Vote.{Vote}
 use Rattle.vote.specs.History.{Seen}
 use Rattle.vote.specs.Search.{or_else, is}
 use Rattle.vote.specs.Setting.{Setting}
-use Rattle.agreement.specs.Echo.{decides, second, verdict}
+use Rattle.agreement.specs.Echo.{decides, second}
 use Rattle.vote.specs.News.{values}
-use Rattle.heard.specs.Due.{approves, echo_due, third_due, outcome_due, fifth_due}
+use Rattle.heard.specs.Due.{approves, echo_due, third_due, outcome_due, fifth_due, verdict_due}
 use Rattle.echo_board.specs.declared.findings.Findings.{Findings}
 
 -- the decision is made of votes of the kind c, and of what is approved
@@ -26,7 +26,7 @@ at_two Two o = o
 -- what is due of the decision, which at depth 1 is the outcome
 abbrev pub decision_due : Setting → Depth → Vote → Seen → Option Decision
 decision_due S One w x = decides 1 (outcome_due S w x)
-decision_due S Two w x = verdict S Two x
+decision_due S Two w x = verdict_due S w x
 
 -- What is made of the seven tests once the vote w is counted: what is held in o, and otherwise what is due of those that look at something that w has changed.
 -- Only an echo can make an echo due; the others look at the votes of a kind, and at what is approved.

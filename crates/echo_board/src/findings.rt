@@ -93,7 +93,7 @@ impl Findings {
                     heard.fifth(voting, vote)
                 }),
                 decision: held_or(self.decision, is_weighed(approves, vote), || {
-                    heard.verdict(voting)
+                    heard.verdict(voting, vote)
                 }),
             },
         }

@@ -1,33 +1,23 @@
 -- What is asked of the sets of senders is what is asked of that which they show. Assumes nothing.
-use Rattle.std.proofs.Common.{◌≡◌, ℕ, zero, suc, ◌-◌, ◌<◌, ◌≤◌, Bool, false, not, ◌&&◌, eqb, leb, get_or, Some, None, Option, sym, refl, ap, ◌∙◌, ap₂, arith}
+use Rattle.std.proofs.Common.{◌≡◌, ℕ, suc, ◌-◌, ◌<◌, ◌≤◌, Bool, not, ◌&&◌, eqb, leb, get_or, Some, None, Option, refl, ap, ◌∙◌, ap₂, arith}
 use lib.Bits.{bit_and}
 use lib.Dec.{leb-zero}
-use Rattle.std.proofs.lemmas.Bool.{and_right, ne_eqb, le-leb}
 use Rattle.quorum.specs.Rules.{Rule, strong, ample, strong_by, ample_by}
 use Rattle.quorum.specs.declared.rule.FailureRule.{Ghosts}
-use Rattle.quorum.specs.Facts.{AmpleSetsShare}
-use Rattle.quorum.specs.Members.{member_set_of}
-use Rattle.quorum.specs.Truth.{false_since}
 use Rattle.quorum.proofs.Masks.{set_of_ext, set_of_minus}
 use Rattle.vote.specs.declared.voting.Voting.{Voting}
 use Rattle.vote.specs.History.{Seen, says, speaks}
 use Rattle.vote.specs.Search.{seek, all_below, some_below, given, is}
 use Rattle.agreement.specs.Echo.{other}
-use Rattle.vote.proofs.Options.{is_given}
-use Rattle.vote.proofs.Seeking.{nothing_below, seek_ext, some_in}
-use Rattle.heard.specs.declared.tally.Tally.{Tally}
+use Rattle.vote.proofs.Seeking.{seek_ext, some_in}
 use Rattle.heard.specs.declared.counted.Heard.{Heard}
-use Rattle.heard.specs.Shown.{heard_of, tally_of}
+use Rattle.heard.specs.Shown.{heard_of}
 use Rattle.heard.specs.Masks.{beyond, others, ample_from, backed_in}
-use Rattle.heard.proofs.Read.{tally_all, tally_value, echo_at, value_at, all_at}
+use Rattle.heard.proofs.Read.{echo_at, value_at, all_at}
 
 other_is : (u : ℕ) (a : Option ℕ) → (given a && not (is u a)) ≡ other u a
 other_is u None = refl
 other_is u (Some v) = refl
-
-from_one : (v : ℕ) → leb 1 v ≡ not (eqb v 0)
-from_one zero = refl
-from_one (suc v) = le-leb 1 (suc v) (omega arith) ∙ sym (ap not (ne_eqb (suc v) 0 (omega arith)))
 
 -- ---- under what a voting settles
 module _ {B : Type 0} {m : Ghosts B} (V : Voting B m) where
@@ -36,18 +26,6 @@ module _ {B : Type 0} {m : Ghosts B} (V : Voting B m) where
 
   abbrev k : ℕ
   k = V.characters
-
-  -- ---- the senders of a value are some of all, so where all are not ample, they are not
-  module _ (from : ℕ) (f : ℕ → Option ℕ) (t : Tally) (e : t ≡ tally_of R.crew f) where
-    pub shared_is : seek (suc k) (ample_from R t.values from) ≡ seek (suc k) (λ v. leb from v && ample_by R (λ i. is v (f i)))
-    shared_is = seek_ext (suc k) _ _ (λ v h. ap (λ (s : ℕ). leb from v && ample R s) (tally_value R.crew f t e v (omega arith)))
-
-    pub none_shared : AmpleSetsShare R → ample R t.all ≡ false → None ≡ seek (suc k) (λ v. leb from v && ample_by R (λ i. is v (f i)))
-    unfolding AmpleSetsShare
-    none_shared facts few =
-        sym (nothing_below (suc k) _ (λ v h. and_right (leb from v) _ (false_since (ample_by R (λ i. is v (f i))) _
-        (facts.grows _ _ (λ i l q. member_set_of R.crew (λ i. given (f i)) i l ∙ is_given v (f i) (sym (member_set_of R.crew (λ i. is v (f i)) i l) ∙ q)))
-        (ap (ample R) (sym (tally_all R.crew f t e)) ∙ few))))
 
   module _ (o : Heard) (x : Seen) (e : o ≡ heard_of R.crew x) where
     pub ample_echo : (v : ℕ) → v ≤ 8 → ample R (get_or o.echoes v 0) ≡ ample_by R (x.echo v)
@@ -64,12 +42,6 @@ module _ {B : Type 0} {m : Ghosts B} (V : Voting B m) where
 
     pub lowest_approved : seek (suc k) (ample_from R o.echoes 0) ≡ seek (suc k) (λ v. ample_by R (x.echo v))
     lowest_approved = lowest_echo 0 ∙ seek_ext (suc k) _ _ (λ v h. rw (leb-zero v))
-
-    pub shared_value : (c : ℕ) → seek (suc k) (λ v. leb 0 v && ample_by R (says x c v)) ≡ seek (suc k) (λ v. ample_by R (says x c v))
-    shared_value c = seek_ext (suc k) _ _ (λ v h. rw (leb-zero v))
-
-    pub shared_character : (c : ℕ) → seek (suc k) (λ v. leb 1 v && ample_by R (says x c v)) ≡ seek (suc k) (λ v. not (eqb v 0) && ample_by R (says x c v))
-    shared_character c = seek_ext (suc k) _ _ (λ v h. ap (λ (a : Bool). a && ample_by R (says x c v)) (from_one v))
 
     pub parted_is : all_below (suc k) (λ u. strong R (others (get_or o.first 0 beyond) u)) ≡ all_below (suc k) (λ u. strong_by R (λ i. other u (x.first 1 i)))
     parted_is = ap (λ s. not (given s)) (seek_ext (suc k) _ _ (λ u h. ap not (at u (omega arith))))

@@ -1,24 +1,24 @@
 -- Each test, from what is asked of the sets of senders: its parts put together are the test's definition. Assumes nothing.
-use Rattle.std.proofs.Common.{◌≡◌, ℕ, suc, ◌+◌, ◌-◌, ◌<◌, ◌≤◌, Bool, true, false, cond, not, ◌&&◌, eqb, leb, get_or, Some, None, Option, sym, refl, ap, ◌∙◌, ap₂, arith}
-use Rattle.std.proofs.lemmas.Bool.{eq-eqb, ne_eqb, cond-true, cond-false}
+use Rattle.std.proofs.Common.{◌≡◌, ℕ, suc, ◌+◌, ◌-◌, ◌<◌, ◌≤◌, Bool, true, false, cond, not, ◌&&◌, eqb, get_or, Some, None, Option, sym, refl, ap, ◌∙◌, ap₂, ⊎_elim, arith}
+use Rattle.std.proofs.lemmas.Bool.{eq-eqb, ne_eqb, cases_eq, cond-true, cond-false}
 use Rattle.quorum.specs.declared.rule.FailureRule.{Ghosts}
 use Rattle.quorum.specs.Rules.{Rule, ample, ample_by}
 use Rattle.vote.specs.declared.Decision.{Decision}
 use Rattle.vote.specs.declared.Depth.{Depth}
-use Rattle.vote.specs.declared.Depth.TheVariants.{Two}
 use Rattle.vote.specs.declared.Vote.{Vote}
 use Rattle.vote.specs.declared.voting.Voting.{Voting}
 use Rattle.vote.specs.History.{Seen, says, speaks}
-use Rattle.vote.specs.Search.{seek, or_else, when, given, is}
-use Rattle.vote.specs.Setting.{lowest, decision_on}
-use Rattle.agreement.specs.Echo.{approved, two_approved, mixed, second, backed, decides, verdict}
+use Rattle.vote.specs.Search.{seek, or_else, when, given}
+use Rattle.vote.specs.Setting.{lowest}
+use Rattle.agreement.specs.Echo.{approved, two_approved, mixed, second, backed, decides}
+use Rattle.vote.proofs.Options.{given_absent, else_given, else_none}
 use Rattle.vote.proofs.Seeking.{two_none, two_some}
 use Rattle.heard.specs.declared.counted.Heard.{Heard}
-use Rattle.heard.specs.Shown.{heard_of, setting, tally_of}
-use Rattle.heard.specs.Due.{shared_due, third_due, outcome_due, fifth_due}
+use Rattle.heard.specs.Shown.{heard_of, setting}
+use Rattle.heard.specs.Due.{shared_due, third_due, outcome_due, fifth_due, held, verdict_due}
 use Rattle.heard.specs.Masks.{beyond, ample_from, backed_in}
-use Rattle.heard.proofs.Made.{ample_echo, ample_all, lowest_echo, lowest_approved, shared_character, backed_is}
-use Rattle.heard.proofs.Read.{first_of, value_at}
+use Rattle.heard.proofs.Made.{ample_echo, ample_all, lowest_echo, lowest_approved, backed_is}
+use Rattle.heard.proofs.Read.{value_at}
 
 -- ---- under what a voting settles
 module _ {B : Type 0} {m : Ghosts B} (V : Voting B m) where
@@ -60,14 +60,6 @@ module _ {B : Type 0} {m : Ghosts B} (V : Voting B m) where
     late_made : (j : ℕ) → j < 5 → {b : Bool} → b ≡ AllLate j → b ≡ Late (suc j)
     late_made j h p = p ∙ ap (λ (a : Bool). mixed (setting R k d) x && a) (ample_all V o x e j h)
 
-    -- the lowest value for which ample senders voted first in the kind c
-    abbrev Shared : ℕ → ℕ → Option ℕ → Type 0
-    Shared c from s = (f : ℕ → Option ℕ) → get_or o.first (c - 1) beyond ≡ tally_of R.crew f → s ≡ seek (suc k) (λ v. leb from v && ample_by R (λ i. is v (f i)))
-
-    pub character_made : (c : ℕ) → 1 ≤ c → c ≤ 5 → (s : Option ℕ) → Shared c 1 s → s ≡ lowest (setting R k d) (λ v. not (eqb v 0) && ample_by R (says x c v))
-    unfolding lowest
-    character_made c one five s p = p (x.first c) (first_of R.crew o x e c one five) ∙ shared_character V o x e c
-
     -- ---- the value of the vote w in the kind c
     module _ (w : Vote) where
       pub shared_other : (c : ℕ) → (w.kind ≡ c → ⊥) → None ≡ shared_due (setting R k d) w c x
@@ -98,18 +90,24 @@ module _ {B : Type 0} {m : Ghosts B} (V : Voting B m) where
       pub fifth_late : {r s : Option ℕ} {b : Bool} → s ≡ shared_due (setting R k d) w 4 x → s ≡ None → b ≡ AllLate 3 → r ≡ when b 0 → r ≡ fifth_due (setting R k d) w x
       fifth_late p q b t = rw (sym p, q) (t ∙ ap (λ (a : Bool). when a 0) (late_made 3 (omega arith) b))
 
-    -- the middle way of the test 7
-    abbrev Held : Option Decision
-    Held = cond (Late 5) (decides 1 (lowest (setting R k d) (backed (setting R k d) x))) None
+      -- a value that is not 0 is decided for where it is due, and else what is held is
+      pub verdict_own : (w.value ≡ 0 → ⊥) → {f : Option Decision} {v : Option ℕ} → v ≡ shared_due (setting R k d) w 5 x → f ≡ decides 2 v → given f ≡ true → f ≡ verdict_due (setting R k d) w x
+      verdict_own ne p q some =
+          else_given _ (held (setting R k d) x) some ∙ ap (λ (a : Option Decision). or_else a (held (setting R k d) x)) (q ∙ ap (decides 2) p) ∙ sym (cond-false _ _ _ (ne_eqb w.value 0 ne))
 
+      pub verdict_held : {r f h : Option Decision} {v : Option ℕ} → v ≡ shared_due (setting R k d) w 5 x → f ≡ decides 2 v → (not (eqb w.value 0) && given f) ≡ false
+          → h ≡ held (setting R k d) x → r ≡ or_else h f → r ≡ verdict_due (setting R k d) w x
+      verdict_held p q few h r =
+          let own = q ∙ ap (decides 2) p in
+          ⊎_elim
+          (λ (z : w.value ≡ 0). r ∙ ap₂ or_else h own ∙ sym (cond-true _ _ _ (eq-eqb w.value 0 z)))
+          (λ (z : w.value ≡ 0 → ⊥).
+          let none = given_absent _ (rw (ne_eqb w.value 0 z) at few) in
+          r ∙ ap₂ or_else h none ∙ sym (else_none _) ∙ ap (λ (a : Option Decision). or_else a (held (setting R k d) x)) (sym none ∙ own) ∙ sym (cond-false _ _ _ (ne_eqb w.value 0 z)))
+          (cases_eq w.value 0)
+
+    -- what test 7 holds
     pub held_made : {h : Option Decision} {v : Option ℕ} {b : Bool} → h ≡ cond b (decides 1 v) None → b ≡ AllLate 4
-        → v ≡ seek (suc k) (backed_in R (get_or o.first 3 beyond).values (get_or o.first 4 beyond).values) → h ≡ Held
+        → v ≡ seek (suc k) (backed_in R (get_or o.first 3 beyond).values (get_or o.first 4 beyond).values) → h ≡ held (setting R k d) x
     unfolding lowest backed
     held_made p q v = p ∙ ap₂ (λ (t : Bool) (w : Option ℕ). cond t (decides 1 w) None) (late_made 4 (omega arith) q) (v ∙ backed_is V o x e)
-
-    pub verdict_made : {r f g n : Option Decision} (v : Option ℕ) {z : Bool} → r ≡ or_else f g → g ≡ or_else Held n → f ≡ decides 2 v → Shared 5 1 v
-        → n ≡ when z (decision_on 0 0) → z ≡ ample R (get_or (get_or o.first 4 beyond).values 0 0) → r ≡ verdict (setting R k d) Two x
-    unfolding verdict
-    verdict_made u p g f v n z =
-        p ∙ ap₂ or_else (f ∙ ap (decides 2) (character_made 5 (omega arith) (omega arith) u v))
-        (g ∙ ap (or_else Held) (n ∙ ap (λ (b : Bool). when b (decision_on 0 0)) (z ∙ ap (ample R) (value_at R.crew o x e 4 0 (omega arith) (omega arith)))))

@@ -1,12 +1,13 @@
 -- What a vote makes due as it is counted, where it was not due before. Assumes nothing.
-use Rattle.std.specs.Prelude.{ℕ, cond, not, ◌&&◌, ◌||◌, Bool, Option, ◌==◌}
+use Rattle.std.specs.Prelude.{ℕ, cond, not, ◌&&◌, ◌||◌, Bool, None, Option, ◌==◌}
 use Rattle.quorum.specs.Sets.{member, set_of}
 use Rattle.quorum.specs.Rules.{strong_by, ample_by}
+use Rattle.vote.specs.declared.Decision.{Decision}
 use Rattle.vote.specs.declared.Vote.{Vote}
 use Rattle.vote.specs.History.{Seen, says, speaks}
 use Rattle.vote.specs.Search.{or_else, when}
-use Rattle.vote.specs.Setting.{Setting}
-use Rattle.agreement.specs.Echo.{approved, two_approved, mixed, parted}
+use Rattle.vote.specs.Setting.{Setting, lowest}
+use Rattle.agreement.specs.Echo.{approved, two_approved, mixed, parted, backed, decides}
 
 -- of a crew of n, the opening of w's sender, which is its first vote of kind 1, bears the value of w
 abbrev pub opens : ℕ → Vote → Seen → Bool
@@ -34,3 +35,11 @@ outcome_due S w x = or_else (when (mixed S x && ample_by S.rule (speaks x 3)) 0)
 
 abbrev pub fifth_due : Setting → Vote → Seen → Option ℕ
 fifth_due S w x = or_else (shared_due S w 4 x) (when (mixed S x && ample_by S.rule (speaks x 4)) 0)
+
+-- the decision of the test 7 at grade 1: if mixed and all kind 5 senders are ample, that for the lowest backed character
+abbrev pub held : Setting → Seen → Option Decision
+held S x = cond (mixed S x && ample_by S.rule (speaks x 5)) (decides 1 (lowest S (backed S x))) None
+
+-- What is due of the test 7, where it found nothing before: a character that is the value of w comes before what is held, and 0 after it.
+abbrev pub verdict_due : Setting → Vote → Seen → Option Decision
+verdict_due S w x = cond (w.value == 0) (or_else (held S x) (decides 2 (shared_due S w 5 x))) (or_else (decides 2 (shared_due S w 5 x)) (held S x))

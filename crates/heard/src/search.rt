@@ -20,20 +20,6 @@ pub(crate) fn lowest_ample<R: FailureRule>(
     voting.lowest(|v| from <= v && ample(voting.rule, senders[v as usize]))
 }
 
-// The lowest value from `from` on for which ample senders voted first. Where all senders are not ample, those of no value are.
-pub(crate) fn lowest_shared<R: FailureRule>(
-    voting: &Voting<R>,
-    tally: &Tally,
-    from: u8,
-) -> Option<u8>
-    ensures { (f : ℕ → Option ℕ) → tally.now ≡ tally_of (R.meaning voting.now.rule.now).crew f → result ≡ seek (suc voting.now.characters) (λ v. nat_le from v && ample_by (R.meaning voting.now.rule.now) (λ i. is v (f i))) }
-{
-    if !ample(voting.rule, tally.all) {
-        return None;
-    }
-    lowest_ample(voting, &tally.values, from)
-}
-
 // Whether for each value the senders whose opening is another are strong.
 pub(crate) fn parted_among<R: FailureRule>(voting: &Voting<R>, openings: &Tally) -> bool
     ensures { result ≡ all_below (suc voting.now.characters) (λ u. is_strong (R.meaning voting.now.rule.now) (others_of openings.now u)) }

@@ -48,8 +48,8 @@ impl Heard {
         lowest_ample(voting, &self.echoes, 0)
     }
 
-    // The vote's value, where the vote is of this kind, a number as in a Vote, and the senders of its value are ample.
-    // To ask this of no other value takes some 50 instructions less for each line of `bench`: where a test so far found nothing, the senders of the others are too few.
+    // The vote's value, where the vote is of this kind, a number as in a Vote, and the senders of its value are ample. Where a test so far found nothing, those of each other
+    // value are too few: to ask for this one alone, in the tests 4 to 7, takes some 50 instructions less for each line of `bench`.
     #[tactic(auto, using(crate::proofs::Tested::shared_other))]
     pub(crate) fn shared<R: FailureRule>(
         &self,

@@ -15,6 +15,10 @@ given_found (Some x) h = (x, refl)
 pub given_from : {A : Type 0} {o : Option A} {v : A} → o ≡ Some v → given o ≡ true
 given_from p = ap given p
 
+pub given_absent : {A : Type 0} (o : Option A) → given o ≡ false → o ≡ None
+given_absent None h = refl
+given_absent (Some x) h = clash refl h
+
 pub is_found : (v : ℕ) (o : Option ℕ) → is v o ≡ true → o ≡ Some v
 is_found v None h = absurd (false≢true h)
 is_found v (Some u) h = ap {B = Option ℕ} Some (sym (eqb-true v u h))

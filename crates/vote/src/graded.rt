@@ -5,7 +5,7 @@ ghost use Rattle.vote.specs.Setting.{decision_on};
 use crate::Decision;
 
 // No character.
-pub const NOTHING: Decision = Decision { value: 0, grade: 0 };
+const NOTHING: Decision = Decision { value: 0, grade: 0 };
 
 impl Decision {
     // A character has the grade, and no character has none. A grade is a number: how far apart decisions are is counted by it.

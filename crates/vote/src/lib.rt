@@ -11,7 +11,6 @@ pub mod posted;
 pub mod voting;
 
 pub use conversions::{UnknownDepth, UnknownMethod};
-pub use graded::NOTHING;
 pub use limits::{ECHO, KINDS, MAX_CHARACTERS, VALUES};
 pub use voting::Voting;
 

@@ -1,11 +1,19 @@
--- By the definition of the test 7. Assumes nothing.
-use Rattle.std.proofs.Common.{◌∙◌, ap}
-use Rattle.vote.specs.Search.{or_else}
-use Rattle.heard.proofs.Tested.{verdict_made}
+-- By the definition of what is due of the test 7. Assumes nothing.
+use Rattle.std.proofs.Common.{◌≡◌, false, not, ◌&&◌, eqb, sym, refl, ◌∙◌}
+use Rattle.std.proofs.lemmas.Bool.{and_right}
+use Rattle.vote.specs.Search.{given}
+use Rattle.heard.proofs.Tested.{verdict_own, verdict_held}
 use Rattle.heard.proofs.counted.Heard.verdict.Goals as goal
+use Rattle.heard.proofs.counted.Heard.verdict.Goals.{else-vote-ne0-via-then-vote-ne0+else-is_some, else-vote-ne0-via-else-vote-ne0}
+
+pub returns-then-is_some : goal.returns-then-is_some
+returns-then-is_some g c = λ d x e.
+    verdict_own c.args.voting.now c.args.self.now d x e c.args.vote c.if-vote-ne0.true (c.shared.ensures d x e) c.decision-own.ensures (sym c.is_some.ensures ∙ c.if-is_some.true)
 
 pub returns : goal.returns
 returns g c = λ d x e.
-    verdict_made c.args.voting.now c.args.self.now d x e c.lowest_shared.result
-    c.or-2.ensures (c.or.ensures ∙ ap (λ h. or_else h c.then_some-nothing.result) (c.held-held.ensures d x e)) c.decision-full.ensures c.lowest_shared.ensures
-    c.then_some-nothing.ensures c.ample.ensures.value
+    let few : (not (eqb c.args.vote.value 0) && given c.decision-own.result) ≡ false = elim c.else-vote-ne0.branch [
+      | else-vote-ne0-via-then-vote-ne0+else-is_some k ↦ and_right _ _ (sym k.is_some.ensures ∙ k.if-is_some.false)
+      | else-vote-ne0-via-else-vote-ne0 k ↦ rw (k.if-vote-ne0.false) refl
+    ] in
+    verdict_held c.args.voting.now c.args.self.now d x e c.args.vote (c.shared.ensures d x e) c.decision-own.ensures few (c.held.ensures d x e) c.or.ensures
