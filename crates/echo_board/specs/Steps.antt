@@ -28,7 +28,7 @@ abbrev pub decision_due : Setting → Depth → Vote → Seen → Option Decisio
 decision_due S One w x = decides 1 (outcome_due S w x)
 decision_due S Two w x = verdict_due S w x
 
--- What is made of the seven tests once the vote w is counted: what is held in o, and otherwise what is due of those that look at something that w has changed.
+-- What is made of the seven tests once the vote w is counted: what is held in o, and otherwise what is due of those that look at something that w has changed; of the echoes what is due alone.
 -- Only an echo can make an echo due; the others look at the votes of a kind, and at what is approved.
 abbrev pub completing : Setting → Vote → Seen → Findings → Findings
 completing S w x o = record {

@@ -1,4 +1,4 @@
--- The calls of a group: what each answers, and the run and the records that a list of calls leads to. Assumes nothing.
+-- The calls of a group: what each answers, with the scratch that goes with the answer, and the run and the records that a list of calls leads to. Assumes nothing.
 use Rattle.std.specs.Prelude.{ℕ, cond, not, ◌&&◌, ◌||◌, List, [], ◌∷◌, length, Some, None, Ok, Err, Option, Result, nat_lt}
 use Rattle.quorum.specs.Rules.{Rule}
 use Rattle.vote.specs.declared.Vote.{Vote}

@@ -15,7 +15,7 @@ pub struct Group<R: FailureRule> {
     pub(crate) rule: R,
     pub(crate) terms: Terms,
     pub(crate) records: Records,
-    // the frames of the words that the last accepted call has posted, by kind and then value, and zero bytes behind
+    // the frames of the words that the last accepted call has posted, by kind and then value, and zero bytes behind; before any call zero bytes alone
     pub(crate) scratch: [u8; SCRATCH],
 }
 
@@ -27,7 +27,7 @@ impl<R: FailureRule> Group<R> {
         self.record(board)?.decided()
     }
 
-    // What the last accepted call has written: the frames of the words that it posted, by kind and then value, and zero bytes behind.
+    // What the last accepted call has written: the frames of the words that it posted, by kind and then value, and zero bytes behind. Before any call zero bytes alone.
     pub fn scratch(&self) -> &[u8; SCRATCH]
         ensures { result.now ≡ self.now.scratch }
     {

@@ -13,7 +13,7 @@ use Rattle.agreement.specs.Echo.{approved, two_approved, mixed, parted, backed, 
 abbrev pub opens : ℕ → Vote → Seen → Bool
 opens n w x = member w.sender (set_of n (says x 1 w.value))
 
--- What the tests 1 and 2 make due once the echo w is counted, of the values that are not echoed already: test 1 is made for the value of w alone, as no other has more senders, and test 2
+-- What the tests 1 and 2 make due once the echo w is counted, of the values that are not echoed already: test 1 is made for the value of w alone, as no other has gained a sender, and test 2
 -- only where w is its sender's opening, as else the openings are those of before.
 abbrev pub echo_due : Setting → Vote → ℕ → Seen → ℕ → Bool
 echo_due S w echoed x v = not (member v echoed) && ((v == w.value && strong_by S.rule (x.echo v)) || (v == 0 && (opens S.rule.crew w x && parted S x)))
@@ -22,7 +22,7 @@ echo_due S w echoed x v = not (member v echoed) && ((v == w.value && strong_by S
 abbrev pub approves : Setting → Vote → Seen → Bool
 approves S w x = w.kind == 1 && (approved S x w.value && not (ample_by S.rule (λ i. x.echo w.value i && not (w.sender == i))))
 
--- the value of w, where w is of the kind c and the senders of its value are ample, as no other value has more senders
+-- the value of w, where w is of the kind c and the senders of its value are ample, as no other value has gained a sender
 abbrev pub shared_due : Setting → Vote → ℕ → Seen → Option ℕ
 shared_due S w c x = when (w.kind == c && ample_by S.rule (says x c w.value)) w.value
 

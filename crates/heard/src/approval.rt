@@ -13,7 +13,7 @@ use quorum::{FailureRule, ample, without};
 use vote::{ECHO, Vote, Voting};
 
 impl Heard {
-    // Whether the vote, which is counted, makes its value approved: it is an echo, and without its sender the senders are not ample. That an echo of a value that was approved
+    // Whether the vote, which is counted, makes its value approved: it is an echo, and the senders of its value are ample, but not without its own. That an echo of a value that was approved
     // before makes no test due takes some 4 instructions less for each line of `bench`. The vote's numbers are asked to be good, as in `Tally::add`: a type of good votes would
     // be made of them at each call.
     #[tactic(auto, using(crate::proofs::Due::approves_other, crate::proofs::Due::approves_few, crate::proofs::Due::approves_made))]

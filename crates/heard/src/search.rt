@@ -1,9 +1,8 @@
 // What a look through the values, 0 too, finds in their sets of senders.
-ghost use Rattle.std.specs.Prelude.{◌≡◌, ℕ, suc, ◌&&◌, Option, nat_le};
+ghost use Rattle.std.specs.Prelude.{◌≡◌, suc};
 ghost use Rattle.heard.specs.Masks.{others as others_of, ample_from, backed_in};
-ghost use Rattle.heard.specs.Shown.{tally_of};
-ghost use Rattle.quorum.specs.Rules.{strong as is_strong, ample_by};
-ghost use Rattle.vote.specs.Search.{is, seek, all_below};
+ghost use Rattle.quorum.specs.Rules.{strong as is_strong};
+ghost use Rattle.vote.specs.Search.{seek, all_below};
 
 use crate::tally::Tally;
 use quorum::{FailureRule, ample, strong};

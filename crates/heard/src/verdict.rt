@@ -1,4 +1,4 @@
-// Test 7: what is to be decided for what is counted.
+// Test 7: what is to be decided once a vote is counted, where nothing was before.
 ghost use Rattle.std.specs.Prelude.{◌≡◌, ◌≤◌};
 ghost use Rattle.heard.specs.Due.{held as held_in, verdict_due};
 ghost use Rattle.heard.specs.Limits.{max_characters};

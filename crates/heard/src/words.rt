@@ -1,4 +1,4 @@
-// Tests 1 to 6: which words are to be posted for what is counted.
+// Tests 1 to 6: which words are to be posted once a vote is counted, where none was before.
 ghost use Rattle.std.specs.Prelude.{◌≡◌, ℕ, ◌≤◌};
 ghost use Rattle.heard.specs.Due.{echo_due, opens as opens_in, shared_due, third_due, outcome_due, fifth_due};
 ghost use Rattle.heard.specs.Limits.{max_characters, max_kind, KindUpTo};

@@ -1,5 +1,5 @@
 -- Which call a line of a session writes, for any bytes. Assumes nothing.
-use Rattle.std.specs.Prelude.{ℕ, ◌+◌, ◌-◌, Bool, cond, ◌&&◌, List, length, take, drop, Some, None, Option, ◌==◌, nat_le, nat_lt, slice_index}
+use Rattle.std.specs.Prelude.{ℕ, ◌+◌, ◌-◌, Bool, cond, ◌&&◌, ◌||◌, List, length, take, drop, Some, None, Option, ◌==◌, nat_le, nat_lt, slice_index}
 use Rattle.vote.specs.declared.Method.{Method}
 use Rattle.vote.specs.Conversions.{method_of}
 use Rattle.numerals.specs.Numerals.{comma, numbers_in}
@@ -75,6 +75,10 @@ whole line = lettered line && nat_lt 2 (length line) && nat_le (length line) max
 -- what stands between the letter's comma and the line feed
 abbrev pub body : List ℕ → List ℕ
 body line = take (length line - 1 - 2) (drop 2 line)
+
+-- whether the line has the letter of an opening, and is whole
+abbrev pub begins_opening : List ℕ → Bool
+begins_opening line = whole line && (slice_index line 0 == open_by_count_letter || slice_index line 0 == open_by_sets_letter)
 
 -- by the letter, what a line that opens a group writes
 abbrev pub opening_by : ℕ → List ℕ → Call

@@ -1,5 +1,5 @@
 -- Which call the code's own record of a line stands for. Assumes nothing.
-use Rattle.std.specs.Prelude.{◌≡◌, ℕ, ◌+◌, ◌≤◌, cond, List, length, take, drop, Some, None, Option, ◌==◌, slice_index}
+use Rattle.std.specs.Prelude.{◌≡◌, ℕ, ◌+◌, ◌≤◌, true, cond, List, length, take, drop, Some, None, Option, ◌==◌, slice_index}
 use Rattle.vote.specs.declared.Method.{Method}
 use Rattle.lines.specs.declared.head.Head.{Head}
 use Rattle.lines.specs.declared.line.Line.{Line}
@@ -9,7 +9,7 @@ use Rattle.lines.specs.declared.plan.By.TheVariants.{Count, Sets}
 use Rattle.lines.specs.declared.plan.Plan.{Plan}
 use Rattle.fixed.specs.Items.{items_of}
 use Rattle.lines.specs.Calls.{Failing, by_count, by_sets, Opening, Call, unreadable, opens, starts_board, carries, forges}
-use Rattle.lines.specs.Lines.{opening_with, opening_in}
+use Rattle.lines.specs.Lines.{begins_opening, opening_with, opening_in}
 
 -- how many listed sets lead the numbers of a plan
 abbrev pub sets_many : By → ℕ
@@ -65,10 +65,10 @@ abbrev pub PlanWithin : Option Plan → Type 0
 PlanWithin None = Unit {0}
 PlanWithin (Some p) = (length (sets_of p) ≡ sets_many p.by) × (length (starts_of p) ≡ p.crew)
 
--- a place is within the line
+-- an opening is told of no other line than a whole one with the letter of an opening, and a place is within the line
 abbrev pub Within : List ℕ → Option Line → Type 0
 Within line None = Unit {0}
-Within line (Some Open) = Unit {0}
+Within line (Some Open) = begins_opening line ≡ true
 Within line (Some (Start i)) = Unit {0}
 Within line (Some (Carry to from kind value)) = Unit {0}
 Within line (Some (Forge to from place)) = place ≤ length line

@@ -28,7 +28,8 @@ fn read(line: &[u8]) -> Option<Line>
     }
 }
 
-// The call that the bytes write, if they write one; its line feed is the last byte of a line.
+// The call that the bytes write, if they write one; of an opening only that it is one, if `read_opening` can read the rest. The line feed is the last
+// byte of a line.
 // It stands apart from `read`, so that the theorems are told once, and not at each of its returns.
 #[tactic(auto, using(crate::proofs::Writing::told_writes, crate::proofs::Readable::each_call_is_readable, crate::proofs::MarkedCases::marked_cases_hold))]
 pub fn read_line(line: &[u8]) -> Option<Line>
