@@ -61,6 +61,7 @@ impl<R: FailureRule> Group<R> {
     pub(crate) fn posted(&self, board: u16, kind: u16, value: u16) -> bool
         ensures value { TellsPosted (R.meaning self.now.rule) self.now.terms self.now.records board kind value result }
         ensures within { result ≡ true → (kind ≤ 5) × (value ≤ 8) }
+        ensures begun { result ≡ true → is_some (slice_index_or self.now.records.boards board None) ≡ true }
     {
         if kind > wire::MAX_KIND || value > wire::MAX_VALUE {
             return false;

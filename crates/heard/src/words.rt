@@ -49,7 +49,7 @@ impl Heard {
     }
 
     // The vote's value, where the vote is of this kind, a number as in a Vote, and the senders of its value are ample. Where a test so far found nothing, those of each other
-    // value are too few: to ask for this one alone, in the tests 4 to 7, takes some 50 instructions less for each line of `bench`.
+    // value are too few: to ask for this one alone, in the tests 4 to 7, takes some 40 instructions less for each line of `bench`.
     #[tactic(auto, using(crate::proofs::Tested::shared_other))]
     pub(crate) fn shared<R: FailureRule>(
         &self,
