@@ -46,11 +46,11 @@ module _ (R : Rule) (f : Fit) where
   unfolding record_of
   echo_shown h o p at shown = echo_by f.method h p (sym at ∙ shown)
 
-  pub step_plain : (w : Vote) (o : Record) (p q : PlainRecord) (r : Option News) → o ≡ Gathers p → 1 ≤ R.cover → plain_counts.Counts (setting_of R f) w p q r → Counts R f w o (Gathers q) r
+  pub step_plain : (w : Vote) (o : Record) (p q : PlainRecord) (r : Option News) → o ≡ Gathers p → plain_counts.Counts (setting_of R f) w p q r → Counts R f w o (Gathers q) r
   unfolding plain_counts.Counts plain_counts.taken plain_counts.answer_of answer_of
-  step_plain w o p q r at cov counts h shown =
+  step_plain w o p q r at counts h shown =
       let k = plain_shown h o p at shown in
-      let t = counts h cov k.1 in (
+      let t = counts h k.1 in (
         ap Gathers t.0 ∙ sym (plain_shows (with_vote Plain h w) k.0) ∙ ap (λ m. record_of R f (with_vote m h w)) (sym k.0),
         t.1 f.start ∙ ap (λ m. answer_by m (setting_of R f) f.start h w) (sym k.0),
       )

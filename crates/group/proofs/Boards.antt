@@ -16,7 +16,7 @@ use Rattle.board.proofs.Six.{six_words}
 use Rattle.group.specs.declared.fault.GroupFault.{GroupFault}
 use Rattle.group.specs.declared.turn.Done.{Done}
 use Rattle.group.specs.declared.turn.Turn.{Turn}
-use Rattle.group.specs.Calls.{done_of, outcome_of, left}
+use Rattle.group.specs.Calls.{done_of, yield_of, left}
 use Rattle.group.specs.Steps.{BoardTakes}
 
 -- what is Ok once its error is mapped was Ok before
@@ -32,11 +32,11 @@ module _ (R : Rule) (f : Fit) (port : ℕ) (xs : List ℕ) (o p : Record) where
   -- no slip is too long, so the answer is the one that is written
   pub board_takes : (taken : Taken) (slip : Posted) (d : Done) (s : Result Turn FrameFault) (scratch : List ℕ) (r : Result Turn GroupFault) (Q : FrameFault → GroupFault → Type 0)
       → Accepts R f port xs o p taken slip → Lawful R → f.characters ≤ 8 → d ≡ done_of taken
-      → IfOk s (λ t. record { turn = t; scratch = scratch } ≡ outcome_of d slip) → (length (words_of slip) * 19 ≤ 114 → is_ok s ≡ true)
+      → IfOk s (λ t. record { turn = t; scratch = scratch } ≡ yield_of d slip) → (length (words_of slip) * 19 ≤ 114 → is_ok s ≡ true)
       → MatchResult s (λ t. r ≡ Ok t) (λ e. IsErrAnd r (Q e)) → BoardTakes R f port xs (Some o) (Some p) (left r scratch)
   board_takes taken slip d (Ok t) scratch r Q (w, is, took, own) law low done value fits told h shown =
       let k = took h (shown_in h shown) in
-      rw is (ap Some k.shows, ap (λ (u : Result Turn GroupFault). left u scratch) told ∙ ap Ok (value ∙ ap₂ outcome_of (done ∙ ap done_of k.tells) k.slips))
+      rw is (ap Some k.shows, ap (λ (u : Result Turn GroupFault). left u scratch) told ∙ ap Ok (value ∙ ap₂ yield_of (done ∙ ap done_of k.tells) k.slips))
   board_takes taken slip d (Err e) scratch r Q (w, is, took, own) law low done value fits told h shown =
       absurd (false≢true (fits (short slip (slip_of f (answer_of R f h (vote_of w))) (took h (shown_in h shown)).slips (six_words R f law low h (vote_of w)))))
     where

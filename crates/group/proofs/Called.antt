@@ -8,7 +8,7 @@ use Rattle.group.specs.declared.fault.GroupFault.{GroupFault}
 use Rattle.group.specs.declared.fault.GroupFault.TheVariants.{Outside, Listed, Begun, Idle, Unlisted, Unposted}
 use Rattle.group.specs.declared.records.Records.{Records}
 use Rattle.group.specs.declared.terms.Terms.{Terms}
-use Rattle.group.specs.Calls.{Outcome, Call, starting, carrying, forging, first_failed, records_of, with_word, taken_at, told_with, run_of, start_fault, carry_fault, forge_fault}
+use Rattle.group.specs.Calls.{Yield, Call, starting, carrying, forging, first_failed, records_of, with_word, taken_at, told_with, run_of, start_fault, carry_fault, forge_fault}
 use Rattle.group.specs.Promises.{Reached, Plays}
 use Rattle.group.specs.Steps.{StandsAgainst, Takes}
 use Rattle.group.specs.Terms.{method_in, lies}
@@ -74,7 +74,7 @@ module _ {R : Rule} (T : Terms) (o : Records) where
       refused law (carrying to from c v) o e (λ xs reached. sym (is (posted (method_in R T) (run_of R T xs) from c v)) ∙ carry_stands xs reached to from c v _ (λ l m. refl))
 
   -- a board that has a record is one of the sixteen, and has started, so that it takes what comes
-  pub takes_there : (to port : ℕ) (bytes : List ℕ) (p : Records) (r : Result Outcome GroupFault) → Takes R T to port bytes o p r → true ≡ has_record o to → (xs : List Call) → Reached R T o xs
+  pub takes_there : (to port : ℕ) (bytes : List ℕ) (p : Records) (r : Result Yield GroupFault) → Takes R T to port bytes o p r → true ≡ has_record o to → (xs : List Call) → Reached R T o xs
       → (p ≡ records_of R T (with_word R T (run_of R T xs) to (taken_at R T to port bytes))) × (r ≡ told_with R T (run_of R T xs) to (taken_at R T to port bytes))
   takes_there to port bytes p r takes on xs reached =
       let shown = shown_run xs reached in

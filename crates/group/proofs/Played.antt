@@ -8,7 +8,7 @@ use Rattle.wire.proofs.FrameText.{ranges_carried}
 use Rattle.group.specs.declared.fault.GroupFault.{GroupFault}
 use Rattle.group.specs.declared.records.Records.{Records}
 use Rattle.group.specs.declared.terms.Terms.{Terms}
-use Rattle.group.specs.Calls.{Outcome, Call, carrying, records_of, fault_of, done_by, told_by, unless, next, answer, run_of, after, answered}
+use Rattle.group.specs.Calls.{Yield, Call, carrying, records_of, fault_of, done_by, told_by, unless, next, answer, run_of, after, answered}
 use Rattle.group.specs.Promises.{Reached, Plays}
 use Rattle.group.specs.Steps.{StandsAgainst}
 use Rattle.group.proofs.Faultless.{may_carry}
@@ -35,7 +35,7 @@ module _ {R : Rule} {T : Terms} (law : Lawful R) (x : Call) (o : Records) where
   }
 
   -- a call that nothing stands against
-  pub accepted : (p : Records) (a : Result Outcome GroupFault) → StandsAgainst R T x o None
+  pub accepted : (p : Records) (a : Result Yield GroupFault) → StandsAgainst R T x o None
       → ((xs : List Call) → Reached R T o xs → (p ≡ records_of R T (done_by R T (run_of R T xs) x)) × (a ≡ told_by R T (run_of R T xs) x)) → Plays R T x o p a
   unfolding Plays after answered run_of next answer
   accepted p a stands does xs reached =

@@ -19,7 +19,7 @@ use Rattle.board.specs.Taking.{vote_of}
 use Rattle.group.specs.declared.records.Records.{Records}
 use Rattle.group.specs.declared.terms.Terms.{Terms}
 use Rattle.group.specs.declared.fault.GroupFault.{GroupFault}
-use Rattle.group.specs.Calls.{Outcome, heard_with, board_of, records_of, taken_at, with_word, told_with}
+use Rattle.group.specs.Calls.{Yield, heard_with, board_of, records_of, taken_at, with_word, told_with}
 use Rattle.group.specs.Steps.{BoardTakes}
 use Rattle.group.specs.Terms.{start_at, fit_at}
 
@@ -113,7 +113,7 @@ module _ (R : Rule) (T : Terms) (r : List Event) where
   taken_here j (Err e) s on q = started_is R T r j s on q
   taken_here j (Ok w) s on q = taken_vote j (vote_of w) s on (repeats T.method (history r j) (vote_of w)) q
 
-  pub records_take : (o : Records) (j port : ℕ) (xs : List ℕ) (f : Fit) (d p : Option Record) (a : Result Outcome GroupFault) → j < 16 → given (start_of r j) ≡ true → f ≡ fit_at T j
+  pub records_take : (o : Records) (j port : ℕ) (xs : List ℕ) (f : Fit) (d p : Option Record) (a : Result Yield GroupFault) → j < 16 → given (start_of r j) ≡ true → f ≡ fit_at T j
       → BoardTakes R f port xs (get_or o.boards j d) p a → o ≡ records_of R T r
       → (record { boards = set o.boards j p } ≡ records_of R T (with_word R T r j (taken_at R T j port xs))) × (a ≡ told_with R T r j (taken_at R T j port xs))
   records_take o j port xs f d p a l on is takes shown =

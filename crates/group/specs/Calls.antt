@@ -38,20 +38,20 @@ abbrev pub done_of : Taken → Done
 done_of Counted = HasCounted
 done_of Again = FoundAgain
 
--- what an accepted call comes to: its answer, and the scratch of 114 bytes into which the words of its slip are written
-pub record Outcome : Type 0 where
+-- what an accepted call yields: its answer, and the scratch of 114 bytes into which the words of its slip are written
+pub record Yield : Type 0 where
   pub turn : Turn
   pub scratch : List ℕ
 
-abbrev pub outcome_of : Done → Posted → Outcome
-outcome_of d p = record { turn = record { done = d; words = length (words_of p) }; scratch = zero_filled (frames_of p) 114 }
+abbrev pub yield_of : Done → Posted → Yield
+yield_of d p = record { turn = record { done = d; words = length (words_of p) }; scratch = zero_filled (frames_of p) 114 }
 
 -- an answer, with the scratch as it is then; a refusal says nothing of it
-abbrev pub left : Result Turn GroupFault → List ℕ → Result Outcome GroupFault
+abbrev pub left : Result Turn GroupFault → List ℕ → Result Yield GroupFault
 left (Ok t) s = Ok (record { turn = t; scratch = s })
 left (Err e) s = Err e
 
-abbrev pub unless : Option GroupFault → Result Outcome GroupFault → Result Outcome GroupFault
+abbrev pub unless : Option GroupFault → Result Yield GroupFault → Result Yield GroupFault
 unless None r = r
 unless (Some f) r = Err f
 
@@ -63,10 +63,10 @@ module _ (R : Rule) (f : Fit) where
   heard_with h (Err e) = h
 
   -- and what it answers
-  abbrev pub board_told : List Vote → Result Word BoardFault → Result Outcome GroupFault
+  abbrev pub board_told : List Vote → Result Word BoardFault → Result Yield GroupFault
   board_told h (Ok w) =
       let news = answer_of R f h (vote_of w) in
-      Ok (outcome_of (done_of (told_of news)) (slip_of f news))
+      Ok (yield_of (done_of (told_of news)) (slip_of f news))
   board_told h (Err e) = Err (Refuses f.board e)
 
 module _ (R : Rule) (T : Terms) where
@@ -84,7 +84,7 @@ module _ (R : Rule) (T : Terms) where
   with_word r j (Ok w) = cond (repeats T.method (history r j) (vote_of w)) r (counts j (vote_of w) ∷ r)
   with_word r j (Err e) = r
 
-  abbrev pub told_with : List Event → ℕ → Result Word BoardFault → Result Outcome GroupFault
+  abbrev pub told_with : List Event → ℕ → Result Word BoardFault → Result Yield GroupFault
   told_with r j t = board_told R (fit_at T j) (history r j) t
 
   abbrev pub taken_at : ℕ → ℕ → List ℕ → Result Word BoardFault
@@ -129,8 +129,8 @@ module _ (R : Rule) (T : Terms) where
   done_by r (carrying to from c v) = with_word r to (taken_at to from (frame_by from c v))
   done_by r (forging to from xs) = with_word r to (taken_at to from xs)
 
-  abbrev pub told_by : List Event → Call → Result Outcome GroupFault
-  told_by r (starting i) = Ok (outcome_of HasStarted (first_posted R (fit_at T i)))
+  abbrev pub told_by : List Event → Call → Result Yield GroupFault
+  told_by r (starting i) = Ok (yield_of HasStarted (first_posted R (fit_at T i)))
   told_by r (carrying to from c v) = told_with r to (taken_at to from (frame_by from c v))
   told_by r (forging to from xs) = told_with r to (taken_at to from xs)
 
@@ -138,7 +138,7 @@ module _ (R : Rule) (T : Terms) where
   unfoldable pub next : List Event → Call → List Event
   next r x = cond (given (fault_of r x)) r (done_by r x)
 
-  unfoldable pub answer : List Event → Call → Result Outcome GroupFault
+  unfoldable pub answer : List Event → Call → Result Yield GroupFault
   answer r x = unless (fault_of r x) (told_by r x)
 
   -- ---- lists of calls, the newest first, from the opening on
@@ -151,5 +151,5 @@ module _ (R : Rule) (T : Terms) where
   after xs = records_of (run_of xs)
 
   -- what the newest call of a list answers
-  unfoldable pub answered : Call → List Call → Result Outcome GroupFault
+  unfoldable pub answered : Call → List Call → Result Yield GroupFault
   answered x xs = answer (run_of xs) x

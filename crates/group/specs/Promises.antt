@@ -14,7 +14,7 @@ use Rattle.group.specs.declared.fault.GroupFault.{GroupFault}
 use Rattle.group.specs.declared.records.Records.{Records}
 use Rattle.group.specs.declared.terms.Terms.{Terms}
 use Rattle.group.specs.Terms.{method_in, start_at, lies}
-use Rattle.group.specs.Calls.{Outcome, Call, carrying, run_of, after, fault_of, answered}
+use Rattle.group.specs.Calls.{Yield, Call, carrying, run_of, after, fault_of, answered}
 
 module _ (R : Rule) (T : Terms) where
   -- the rule and the terms are those of an accepted opening
@@ -86,12 +86,12 @@ module _ (R : Rule) (T : Terms) where
 
   -- The call x leads from the records o to the records p and answers r: whatever calls have led to o, with x they lead to p, r is the answer that is
   -- defined, and the whole promise holds.
-  pub record PlaysAfter (x : Call) (o p : Records) (r : Result Outcome GroupFault) (xs : List Call) : Type 0 where
+  pub record PlaysAfter (x : Call) (o p : Records) (r : Result Yield GroupFault) (xs : List Call) : Type 0 where
     pub reached : Reached p (x ∷ xs)
     pub answers : r ≡ answered R T x xs
     pub promise : Promise (x ∷ xs)
 
-  unfoldable pub Plays : Call → Records → Records → Result Outcome GroupFault → Type 0
+  unfoldable pub Plays : Call → Records → Records → Result Yield GroupFault → Type 0
   Plays x o p r = (xs : List Call) → Reached o xs → PlaysAfter x o p r xs
 
   -- r is what board i has decided, whatever calls have led to the records; a board outside the crew decides nothing

@@ -13,17 +13,17 @@ use Rattle.board.specs.Taking.{word_taken}
 use Rattle.group.specs.declared.fault.GroupFault.{GroupFault}
 use Rattle.group.specs.declared.records.Records.{Records}
 use Rattle.group.specs.declared.terms.Terms.{Terms}
-use Rattle.group.specs.Calls.{Outcome, Call, heard_with, board_told, records_of, taken_at, with_word, told_with, run_of, fault_of}
+use Rattle.group.specs.Calls.{Yield, Call, heard_with, board_told, records_of, taken_at, with_word, told_with, run_of, fault_of}
 use Rattle.group.specs.Promises.{Reached}
 use Rattle.group.specs.Terms.{method_in}
 
 -- One board with these settings, which has started, takes bytes on a port, from the record o to the record p, and answers r.
-abbrev pub BoardTakes : Rule → Fit → ℕ → List ℕ → Option Record → Option Record → Result Outcome GroupFault → Type 0
+abbrev pub BoardTakes : Rule → Fit → ℕ → List ℕ → Option Record → Option Record → Result Yield GroupFault → Type 0
 BoardTakes R f port xs o p r =
     (h : List Vote) → o ≡ Some (record_of R f h) → (p ≡ Some (record_of R f (heard_with R f h (word_taken R f port xs)))) × (r ≡ board_told R f h (word_taken R f port xs))
 
 -- Board j, which has started, takes bytes on a port, from the records o to the records p, and answers r.
-abbrev pub Takes : Rule → Terms → ℕ → ℕ → List ℕ → Records → Records → Result Outcome GroupFault → Type 0
+abbrev pub Takes : Rule → Terms → ℕ → ℕ → List ℕ → Records → Records → Result Yield GroupFault → Type 0
 Takes R T j port xs o p r =
     (h : List Event) → o ≡ records_of R T h → j < 16 → given (start_of h j) ≡ true
     → (p ≡ records_of R T (with_word R T h j (taken_at R T j port xs))) × (r ≡ told_with R T h j (taken_at R T j port xs))
@@ -33,7 +33,7 @@ abbrev pub StandsAgainst : Rule → Terms → Call → Records → Option GroupF
 StandsAgainst R T x o f = (xs : List Call) → Reached R T o xs → f ≡ fault_of R T (run_of R T xs) x
 
 -- A word that a frame can carry is brought to board j, which has started, from the records o to the records p, and r is answered.
-abbrev pub Brings : Rule → Terms → ℕ → Word → Records → Records → Result Outcome GroupFault → Type 0
+abbrev pub Brings : Rule → Terms → ℕ → Word → Records → Records → Result Yield GroupFault → Type 0
 Brings R T j w o p r = carried w ≡ true → Takes R T j w.sender (frame_of w) o p r
 
 -- r is whether board i, which has started, has posted the word, whatever calls have led to the records.

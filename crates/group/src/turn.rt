@@ -1,7 +1,7 @@
 // What an accepted call answers.
 ghost use Rattle.std.specs.Prelude.{◌≡◌, ◌*◌, ◌≤◌, true, length, is_ok, IfOk, IfErr};
 ghost use Rattle.wire.specs.Slips.{words_of};
-ghost use Rattle.group.specs.Calls.{done_of, outcome_of};
+ghost use Rattle.group.specs.Calls.{done_of, yield_of};
 
 use crate::limits::SCRATCH;
 use board::Taken;
@@ -44,7 +44,7 @@ pub(crate) fn written(
     mut slip: Slip,
     scratch: &mut [u8; SCRATCH],
 ) -> Result<Turn, FrameFault>
-    ensures value { IfOk result (λ t. record { turn = t; scratch = scratch.new } ≡ outcome_of done slip.posted) }
+    ensures value { IfOk result (λ t. record { turn = t; scratch = scratch.new } ≡ yield_of done slip.posted) }
     ensures kept { IfErr result (λ e. scratch.new ≡ scratch.old) }
     ensures fits { length (words_of slip.posted) * 19 ≤ 114 → is_ok result ≡ true }
 {

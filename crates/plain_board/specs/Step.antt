@@ -1,5 +1,5 @@
 -- What becomes of a plain board's history as a vote comes, and what the board answers. Assumes nothing.
-use Rattle.std.specs.Prelude.{◌≡◌, ℕ, ◌^◌, ◌≤◌, Bool, cond, List, [], ◌∷◌, Some, None, Option, ◌==◌}
+use Rattle.std.specs.Prelude.{◌≡◌, ℕ, ◌^◌, Bool, cond, List, [], ◌∷◌, Some, None, Option, ◌==◌}
 use Rattle.vote.specs.declared.Depth.{Depth}
 use Rattle.vote.specs.declared.Depth.TheVariants.{One, Two}
 use Rattle.vote.specs.declared.News.{News}
@@ -38,10 +38,9 @@ unfoldable pub answer_of : Setting → ℕ → List Vote → Vote → Option New
 answer_of S start h w = cond (repeats h w) None (Some (news_of (plain S) start h w))
 
 -- From a record that shows a history, w leads to one that shows it with w, and r is the answer, whatever character the board started with.
--- With a cover of 0 the whole crew could fail, so that nobody would be waited for; no rule of a vote has it.
 unfoldable pub Counts : Setting → Vote → PlainRecord → PlainRecord → Option News → Type 0
 Counts S w entry exit r =
-    (h : List Vote) → 1 ≤ S.rule.cover → entry ≡ record_of S h → (exit ≡ record_of S (taken h w)) × ((start : ℕ) → r ≡ answer_of S start h w)
+    (h : List Vote) → entry ≡ record_of S h → (exit ≡ record_of S (taken h w)) × ((start : ℕ) → r ≡ answer_of S start h w)
 
 -- a branch that is just fixed is posted at depth 2
 abbrev pub branch_news : Depth → ℕ → News

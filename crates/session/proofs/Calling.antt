@@ -8,7 +8,7 @@ use Rattle.lines.specs.Calls.{Opening}
 use Rattle.group.specs.declared.fault.GroupFault.{GroupFault}
 use Rattle.group.specs.declared.group.Group.{Group}
 use Rattle.group.specs.declared.terms.Terms.{Terms}
-use Rattle.group.specs.Calls.{Outcome, Call}
+use Rattle.group.specs.Calls.{Yield, Call}
 use Rattle.group.specs.Opening.{Settles}
 use Rattle.group.specs.Promises.{Reached, Plays, PlaysAfter, TellsDecided, decided_after}
 use Rattle.session.specs.declared.fault.SessionFault.TheVariants.{Group as OfGroup}
@@ -20,12 +20,12 @@ use Rattle.session.specs.declared.fault.SessionFault.{SessionFault}
 use Rattle.session.specs.declared.reply.Played.{Played}
 
 module _ (g h : Group EitherRule) (x : Call) (i : ℕ) (same : (h.rule ≡ g.rule) × (h.terms ≡ g.terms)) where
-  plays_at : (r : Result Outcome GroupFault) → Plays (either_rule g.rule) g.terms x g.records h.records r
+  plays_at : (r : Result Yield GroupFault) → Plays (either_rule g.rule) g.terms x g.records h.records r
       → (o : Opening) (xs : List Call) → ShowsOpen g o xs → PlaysAfter (rule_of o) g.terms x g.records h.records r xs
   unfolding Plays
   plays_at r plays o xs s = subst (λ (R : Rule). Plays R g.terms x g.records h.records r) s.rule plays xs s.reached
 
-  shows_on : (r : Result Outcome GroupFault) → Plays (either_rule g.rule) g.terms x g.records h.records r
+  shows_on : (r : Result Yield GroupFault) → Plays (either_rule g.rule) g.terms x g.records h.records r
       → (o : Opening) (xs : List Call) → ShowsOpen g o xs → ShowsOpen h o (x ∷ xs)
   shows_on r plays o xs s = record {
     rule = ap either_rule same.0 ∙ s.rule;
@@ -36,7 +36,7 @@ module _ (g h : Group EitherRule) (x : Call) (i : ℕ) (same : (h.rule ≡ g.rul
   pub refuses : (e : GroupFault) → Plays (either_rule g.rule) g.terms x g.records h.records (Err e) → Calls g x i h (Err (OfGroup e))
   refuses e plays o xs s = (shows_on (Err e) plays o xs s, ap (group_says (rule_of o) g.terms x xs i) (plays_at (Err e) plays o xs s).answers)
 
-  pub accepts : (t : Outcome) (d : Option Decision) → Plays (either_rule g.rule) g.terms x g.records h.records (Ok t)
+  pub accepts : (t : Yield) (d : Option Decision) → Plays (either_rule g.rule) g.terms x g.records h.records (Ok t)
       → TellsDecided (either_rule h.rule) h.terms h.records i d
       → Calls g x i h (Ok (record { words = t.turn.words; decision = d }))
   accepts t d plays tells o xs s =

@@ -8,7 +8,7 @@ use Rattle.group.specs.declared.fault.GroupFault.{GroupFault}
 use Rattle.group.specs.declared.fault.GroupFault.TheVariants.{NoGroup}
 use Rattle.group.specs.declared.group.Group.{Group}
 use Rattle.group.specs.declared.terms.Terms.{Terms}
-use Rattle.group.specs.Calls.{Outcome, Call, starting, carrying, forging, answered}
+use Rattle.group.specs.Calls.{Yield, Call, starting, carrying, forging, answered}
 use Rattle.group.specs.Promises.{decided_after}
 use Rattle.session.specs.declared.fault.SessionFault.{SessionFault}
 use Rattle.session.specs.declared.fault.SessionFault.TheVariants.{Unreadable, Group as OfGroup}
@@ -24,7 +24,7 @@ opening_says None = Ok (record { words = 0; decision = None })
 opening_says (Some f) = Err f
 
 -- what the group answers to the call x after the calls xs: how many words are posted, and what board i has decided then
-abbrev pub group_says : Rule → Terms → Call → List Call → ℕ → Result Outcome GroupFault → Result Played SessionFault
+abbrev pub group_says : Rule → Terms → Call → List Call → ℕ → Result Yield GroupFault → Result Played SessionFault
 group_says R T x xs i (Ok t) = Ok (record { words = t.turn.words; decision = decided_after R T (x ∷ xs) i })
 group_says R T x xs i (Err e) = Err (OfGroup e)
 

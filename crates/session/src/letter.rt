@@ -1,10 +1,9 @@
 // The letter by which an answer tells its line.
-ghost use Rattle.std.specs.Prelude.{◌≡◌, ℕ, List, [], ◌∷◌, Some};
+ghost use Rattle.std.specs.Prelude.{◌≡◌, ℕ, List, [], ◌∷◌};
 ghost use Rattle.lines.specs.Told.{failing_by};
 ghost use Rattle.session.specs.Letters.{opening_letter, letter_text};
 
 use lines::By;
-use std::fmt;
 
 // One case is for a line that cannot be read, and no `None`: each answer begins with a letter, that one with a question mark.
 #[derive(Clone, Copy, PartialEq, Eq, Debug)]
@@ -42,13 +41,5 @@ impl From<Letter> for u8 {
             Letter::Carry => b'c',
             Letter::Forge => b'f',
         }
-    }
-}
-
-impl fmt::Display for Letter {
-    ghost output = { λ l. Some (letter_text l) };
-
-    fn fmt<W: fmt::Write>(&self, f: &mut fmt::Formatter<W>) -> fmt::Result {
-        f.write_char(char::from(u8::from(*self)))
     }
 }

@@ -73,7 +73,8 @@ fn zero_leads(bytes: &[u8]) -> bool
 fn digits(bytes: &[u8]) -> Option<(u16, usize)>
     ensures { result ≡ digits bytes.now }
 {
-    // nearly all fields are one digit, and this way takes some 80 instructions less for each line of `bench`
+    // One digit goes a way of its own. With the like of it in `put_field` it takes some 13 instructions less for each line of `bench`; it was 130 before
+    // frames whose fields are one digit each had theirs (`short_frame`, `short_frame_of`).
     if let [first, second, ..] = bytes {
         if first.is_ascii_digit() && !second.is_ascii_digit() {
             return Some((u16::from(first - b'0'), 1));

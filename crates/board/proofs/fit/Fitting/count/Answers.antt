@@ -1,4 +1,3 @@
-use Rattle.std.proofs.Common.{arith}
 use Rattle.board.proofs.Steps.{step_plain, step_echo, plain_shown, echo_shown}
 use Rattle.board.proofs.fit.Fitting.count.Goals as goal
 use Rattle.board.proofs.fit.Fitting.count.Goals.{in-Plain-Gathers, in-Echo-Echoes, in_default, in_default-2}
@@ -10,7 +9,7 @@ returns g c =
     elim c.match-self.branch [
       | in-Plain-Gathers w ↦
           rw (w.state-is, w.result-is)
-          (step_plain R f c.args.vote c.args.state.now w.in-Plain-Gathers.plain w.count.new.self w.count.result w.in-Plain-Gathers.is-1 (omega arith) w.count.ensures.shows)
+          (step_plain R f c.args.vote c.args.state.now w.in-Plain-Gathers.plain w.count.new.self w.count.result w.in-Plain-Gathers.is-1 w.count.ensures.shows)
       | in-Echo-Echoes w ↦
           rw (w.state-is, w.result-is)
           (step_echo R f c.args.vote c.args.state.now w.in-Echo-Echoes.echo w.count-in-Echo-Echoes.new.self w.count-in-Echo-Echoes.result w.in-Echo-Echoes.is-1 w.count-in-Echo-Echoes.ensures.counts)

@@ -7,7 +7,7 @@ use Rattle.board.specs.declared.fit.Fit.{Fit}
 use Rattle.board.specs.Shown.{record_of}
 use Rattle.board.specs.Started.{first_posted}
 use Rattle.group.specs.declared.turn.Done.TheVariants.{Started}
-use Rattle.group.specs.Calls.{starting, run_of, outcome_of}
+use Rattle.group.specs.Calls.{starting, run_of, yield_of}
 use Rattle.group.specs.Promises.{Plays}
 use Rattle.group.proofs.Boards.{kept_ok}
 use Rattle.group.proofs.Called.{start_refused, start_stands}
@@ -47,5 +47,5 @@ returns-clause-plays g c =
           (unheard law reached.opened xs c.args.board (sym (c.if-begun.ensures ∙ begun_at R T (run_of R T xs) o (shown_run xs reached) c.args.board fits.0)))
           (c.record.ensures R ∙ ap (λ (f : Fit). record_of R f []) fits.1),
       ap Ok (IfOk-at_ok _ (kept_ok _ _ _ _ c.map_err.ensures.cases c.in_ok-turn.was) c.written.ensures.value
-          ∙ ap (outcome_of Started) (c.first_slip-slip.ensures.value R ∙ ap (first_posted R) fits.1)),
+          ∙ ap (yield_of Started) (c.first_slip-slip.ensures.value R ∙ ap (first_posted R) fits.1)),
     ))

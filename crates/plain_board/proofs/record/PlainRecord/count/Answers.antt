@@ -9,7 +9,7 @@ use Rattle.plain_board.proofs.record.PlainRecord.count.Goals.{in_default-via-in-
 
 pub returns-then-not-note-clause-shows : goal.returns-then-not-note-clause-shows
 unfolding Counts
-returns-then-not-note-clause-shows g c = λ h low e.
+returns-then-not-note-clause-shows g c = λ h e.
     let S = setting_in c.args.voting.now in
     let o = c.args.self.now in
     let there : member c.args.vote.sender (of_kind c.args.vote.kind o).all ≡ true = grind arith in
@@ -17,7 +17,7 @@ returns-then-not-note-clause-shows g c = λ h low e.
 
 pub returns-in-Gathering-eq1-clause-shows : goal.returns-in-Gathering-eq1-clause-shows
 unfolding Counts
-returns-in-Gathering-eq1-clause-shows g c = λ h low e.
+returns-in-Gathering-eq1-clause-shows g c = λ h e.
     let S = setting_in c.args.voting.now in
     let o = c.args.self.now in
     let there : member c.args.vote.sender (of_kind c.args.vote.kind o).all ≡ false = grind arith in
@@ -27,7 +27,7 @@ returns-in-Gathering-eq1-clause-shows g c = λ h low e.
 
 pub returns-in-Comparing-eq2-clause-shows : goal.returns-in-Comparing-eq2-clause-shows
 unfolding Counts
-returns-in-Comparing-eq2-clause-shows g c = λ h low e.
+returns-in-Comparing-eq2-clause-shows g c = λ h e.
     let S = setting_in c.args.voting.now in
     let o = c.args.self.now in
     let there : member c.args.vote.sender (of_kind c.args.vote.kind o).all ≡ false = grind arith in
@@ -36,7 +36,7 @@ returns-in-Comparing-eq2-clause-shows g c = λ h low e.
 
 pub returns-in_default-clause-shows : goal.returns-in_default-clause-shows
 unfolding Counts
-returns-in_default-clause-shows g c = λ h low e.
+returns-in_default-clause-shows g c = λ h e.
     let S = setting_in c.args.voting.now in
     let o = c.args.self.now in
     let there : member c.args.vote.sender (of_kind c.args.vote.kind o).all ≡ false = grind arith in
@@ -47,7 +47,7 @@ returns-in_default-clause-shows g c = λ h low e.
           w.if-ample.ensures.value news.ensures
       | in_default-via-in-Gathering+in_default w ↦
           waits_still S c.args.vote h o _ e (omega arith) (omega arith) (omega arith) (omega arith) c.note.ensures.sender there news.result w.in_default.is-0
-          (g.met.R.FailureRule.lawful c.args.voting.now.rule.now) low w.in_default.is-1.1 news.ensures
+          (g.met.R.FailureRule.lawful c.args.voting.now.rule.now) (omega arith) w.in_default.is-1.1 news.ensures
       | in_default-via-in-Comparing+in_default w ↦
           waits_on S c.args.vote h o _ e (omega arith) (omega arith) (omega arith) (omega arith) c.note.ensures.sender there news.result
           w.in_default.field-0-0 w.in_default.is-0 news.ensures w.in_default.is-1.1
