@@ -1,5 +1,5 @@
 -- Bytes that are read as numbers are those numbers in base ten, with single commas between. Assumes nothing.
-use Rattle.std.proofs.Common.{◌≡◌, ℕ, ◌+◌, ◌-◌, ◌*◌, ◌<◌, ◌≤◌, Bool, true, false, cond, ◌&&◌, eqb, ltb, leb, List, [], ◌∷◌, ◌++◌, length, get_or, take, drop, Some, None, decimal, Option, sym, refl, ap, ◌∙◌, ap₂, append_assoc, append-nil, arith}
+use Rattle.std.proofs.Common.{◌≡◌, ℕ, ◌+◌, ◌-◌, ◌*◌, ◌<◌, ◌≤◌, Bool, true, false, cond, ◌&&◌, eqb, ltb, leb, List, [], ◌∷◌, ◌++◌, length, get_or, take, drop, Some, None, decimal, sym, refl, ap, ◌∙◌, ap₂, append_assoc, append-nil, arith}
 use lib.Arith.{digits_div, digits_mod}
 use Rattle.std.proofs.lemmas.Fmt.{decimal_digit, decimal_step}
 use Rattle.std.specs.List.{join_with_byte, position}
@@ -7,21 +7,15 @@ use Rattle.std.proofs.lemmas.List.Splits.{join_with_byte-slice_split, length-sli
 use Rattle.std.proofs.lemmas.List.Quantifiers.{position-Some}
 use Rattle.std.proofs.lemmas.List.{take-append-drop, drop_more}
 use Rattle.std.proofs.lemmas.Bool.{eqb-true, leb-true, ltb-true, and_parts}
-use Rattle.numerals.specs.Numerals.{comma, and_then, digit, with_digit, number_on, number_in, each_number, parts, numbers_in}
+use Rattle.numerals.specs.Numerals.{comma, digit, with_digit, number_on, number_in, each_number, parts, numbers_in}
 use Rattle.numerals.specs.Parts.{field_in}
+pub use Rattle.numerals.proofs.Fields.{none_there, then_some}
 use Rattle.lines.specs.Texts.{listed}
 
 -- ---- what is there
-pub none_there : {A : Type 0} {x : A} {X : Type 0} → None ≡ Some x → X
-none_there e = absurd cc
-
 where_some : {A : Type 0} (b : Bool) (x y : A) → cond b (Some x) None ≡ Some y → (b ≡ true) × (x ≡ y)
 where_some true x y e = (refl, cc)
 where_some false x y e = none_there e
-
-pub then_some : {A B : Type 0} (o : Option A) (f : A → Option B) (y : B) → and_then o f ≡ Some y → (x : A) × (o ≡ Some x) × (f x ≡ Some y)
-then_some None f y e = none_there e
-then_some (Some x) f y e = (x, refl, e)
 
 -- ---- a number
 digit_within : (b : ℕ) → digit b ≡ true → (48 ≤ b) × (b ≤ 57)

@@ -22,6 +22,7 @@ pub fn read_field(bytes: &[u8]) -> Option<(u16, &[u8])>
             return Some((u16::from(digit - b'0'), rest));
         }
     }
-    let comma = first_comma(bytes)?;
+    // no number has more than five digits
+    let comma = first_comma(&bytes[..bytes.len().min(6)])?;
     Some((number(&bytes[..comma])?, &bytes[comma + 1..]))
 }

@@ -1,5 +1,5 @@
 -- Each part takes the reading a step on, and none is read beyond the room. Assumes nothing.
--- The steps are those of `numbers` in `numerals`: what both share is `part_read` and `all_read` there, and the rest names the records of this function alone.
+-- `part_read` and `all_read` of `numerals` say what a part does to the numbers, and the rest names the records of this function.
 use Rattle.std.proofs.Common.{rules, tests, ℕ, eqb, ◌≡◌, ◌+◌, ◌∙◌, [], ◌∷◌, ◌++◌, length, drop, Some, None, Option, sym, ap, ap₂, arith}
 use Rattle.std.proofs.lemmas.List.{length_push}
 use Rattle.std.proofs.lemmas.Iterator.Consumers.{YieldsList-turn, YieldsList-end}

@@ -1,8 +1,11 @@
--- The parts that are left, after those that were read, give the numbers. Assumes nothing.
-use Rattle.std.proofs.Common.{◌≡◌, drop, length, vec_items}
-use Rattle.numerals.specs.Numerals.{parts, numbers_in}
-use Rattle.numerals.proofs.Reading.{after}
+-- What is left, behind the numbers that were read, gives the numbers. Assumes nothing.
+use Rattle.std.proofs.Common.{◌≡◌, length, vec_items}
+use Rattle.numerals.specs.Numerals.{numbers_in}
+use Rattle.numerals.proofs.Fields.{led}
 use Rattle.numerals.proofs.list.numbers.Given as goal
 
-abbrev pub invariant-loop-part : goal.invariant-loop-part
-invariant-loop-part l = after (vec_items l.done) (drop (length l.yielded) (parts l.bytes)) ≡ numbers_in l.bytes
+abbrev pub invariant-loop-value : goal.invariant-loop-value
+invariant-loop-value l = led (vec_items l.done) (numbers_in l.left) ≡ numbers_in l.bytes
+
+abbrev pub decreases-loop-value : goal.decreases-loop-value
+decreases-loop-value l = length l.left
