@@ -1,3 +1,4 @@
+pub mod Lines
 pub mod Asking
 pub mod Saying
 pub mod Answers

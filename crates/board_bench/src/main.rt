@@ -9,6 +9,7 @@ mod answer;
 mod asked;
 mod decided;
 mod fitting;
+mod lines;
 mod place;
 mod posts;
 mod said;
@@ -19,6 +20,7 @@ use asked::read_asked;
 use board::Started;
 use decided::Decided;
 use fitting::fitted;
+use lines::first_line;
 use place::place_of;
 use posts::written;
 use quorum::CountRule;
@@ -29,9 +31,11 @@ use wire::SLIP_MAX;
 
 // Prints the frames as they stand in the buffer, each on a line of its own.
 fn print_frames(rt: &HostRuntime, frames: &[u8]) -> io::Result<()> {
-    for frame in frames.split_inclusive(|byte| *byte == b'\n') {
+    let mut left = frames;
+    while let Some((frame, behind)) = first_line(left) {
         print!(rt; "  ")?;
         rt.stdout().write_all(frame)?;
+        left = behind;
     }
     Ok(())
 }
@@ -58,8 +62,10 @@ fn play_line(rt: &HostRuntime, board: &mut Started<CountRule>, line: &[u8]) -> i
 }
 
 fn play(rt: &HostRuntime, board: &mut Started<CountRule>, input: &[u8]) -> io::Result<()> {
-    for line in input.split_inclusive(|byte| *byte == b'\n') {
+    let mut left = input;
+    while let Some((line, behind)) = first_line(left) {
         play_line(rt, board, line)?;
+        left = behind;
     }
     Ok(())
 }
@@ -87,7 +93,7 @@ fn main(rt: HostRuntime) -> io::Result<()> {
     if input.is_empty() {
         return Ok(());
     }
-    // The place of the first line feed tells both parts: what cuts lines off in `rule_check` is that program's own.
+    // The settings are read without their line feed, so this line is cut at its place: `first_line` leaves a line its feed, which belongs to a frame.
     match place_of(b'\n', &input) {
         None => open(&rt, &input, &[]),
         Some(end) => open(&rt, &input[..end], &input[end + 1..]),

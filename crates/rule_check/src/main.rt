@@ -17,10 +17,11 @@ use std::io;
 use std::io::Read;
 
 fn report_sets(rt: &HostRuntime, rule: &EitherRule, input: &[u8]) -> io::Result<()> {
-    for line in input.split_inclusive(|byte| *byte == b'\n') {
-        let line = line.strip_suffix(b"\n").unwrap_or(line);
+    let mut left = input;
+    while let Some((line, behind)) = first_line(left) {
         let answer = Answer(answer_to(rule, line));
         println!(rt; "{answer}")?;
+        left = behind;
     }
     Ok(())
 }
