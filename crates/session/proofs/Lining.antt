@@ -1,5 +1,5 @@
 -- From a call to the line that writes it, and from what lines have led to to the promise. Assumes nothing.
-use Rattle.std.proofs.Common.{◌≡◌, ℕ, List, Some, None, Option, Result, ap₂, subst}
+use Rattle.std.proofs.Common.{◌≡◌, ℕ, List, [], ◌∷◌, ◌++◌, take, Some, None, Option, Result, ap, ◌∙◌, ap₂, subst}
 use Rattle.quorum.specs.declared.either.EitherRule.{EitherRule}
 use Rattle.quorum.specs.declared.either.EitherRule.TheVariants.{Count, Listed}
 use Rattle.quorum.specs.Good.{count_good, listed_good}
@@ -12,11 +12,14 @@ use Rattle.group.specs.declared.group.Group.{Group}
 use Rattle.group.proofs.Promised.{promised}
 use Rattle.session.specs.declared.fault.SessionFault.{SessionFault}
 use Rattle.session.specs.declared.reply.Played.{Played}
-use Rattle.session.specs.Standing.{Standing, nothing_open, stands_open, stands_after}
+use Rattle.session.specs.Standing.{Standing, nothing_open, stands_open, stands_with, stands_after}
 use Rattle.session.specs.declared.letter.Letter.{Letter}
 use Rattle.session.specs.declared.reply.Reply.{Reply}
 use Rattle.session.specs.Letters.{letter_of}
+use Rattle.session.specs.Gathering.{ReadsTheSame, EndsWith}
+use Rattle.session.specs.Replies.{reply_of}
 use Rattle.session.specs.Shown.{Shows, Led, PlaysCall, PlaysAs, PlaysLine, Promised, KeepsThePromise}
+use Rattle.session.proofs.Cutting.{cut}
 
 -- what a call answers, with its letter, is the reply
 pub replied : (g h : Option (Group EitherRule)) (x : lines.Call) (letter : Letter) (r : Result Played SessionFault)
@@ -31,6 +34,17 @@ same_call g h x y r is plays = subst (λ (z : lines.Call). PlaysAs g z h r) is p
 pub line_plays : (g h : Option (Group EitherRule)) (line : List ℕ) (x : lines.Call) (r : Reply) → x ≡ call_in line → PlaysAs g x h r → PlaysLine g line h r
 unfolding stands_after
 line_plays g h line x r is plays ls led = same_call g h x (call_in line) r is plays (stands_after ls) led
+
+-- a line that is cut at the room does what the whole line does
+pub cut_plays : (g h : Option (Group EitherRule)) (line front : List ℕ) (r : Reply) → front ≡ take 122 line → PlaysLine g front h r → PlaysLine g line h r
+unfolding stands_after ReadsTheSame
+cut_plays g h line front r is plays ls led =
+    subst (λ (x : lines.Call). Shows h (stands_with (stands_after ls) x) × (r ≡ reply_of g (stands_after ls) x)) (ap call_in is ∙ cut line) (plays ls led)
+
+-- what is taken for a line that was begun does what the line does
+pub ended_plays : (g h : Option (Group EitherRule)) (begun end line : List ℕ) (r : Reply) → EndsWith begun end line → PlaysLine g line h r → PlaysLine g (begun ++ end) h r
+ended_plays g h [] end line r is plays = subst (λ (l : List ℕ). PlaysLine g l h r) is plays
+ended_plays g h (b ∷ bs) end line r is plays = cut_plays g h ((b ∷ bs) ++ end) line r is plays
 
 lawful : (x : EitherRule) → Lawful (either_rule x)
 lawful (Count x) = count_good x.crew x.cover x.f x.good

@@ -1,7 +1,9 @@
 // The lines of a session, one after the other.
-ghost use Rattle.std.specs.Prelude.{[]};
+ghost use Rattle.std.specs.Prelude.{◌≡◌, [], ◌++◌};
+ghost use Rattle.fixed.specs.Items.{items_of};
 ghost use Rattle.session.specs.Shown.{LedBy, Led, PlaysLine, KeepsThePromise};
 
+use crate::gather::Gathered;
 use crate::played::play;
 use crate::reply::Reply;
 use group::Group;
@@ -29,5 +31,17 @@ impl Session {
         ensures keeps { KeepsThePromise self.new.group }
     {
         play(&mut self.group, line)
+    }
+
+    // Plays the line that was begun and that these bytes end, with its line feed; after it nothing is begun.
+    #[inline(always)]
+    pub fn play_ended(&mut self, begun: &mut Gathered, end: &[u8]) -> Reply
+        ensures plays { PlaysLine self.old.group (items_of begun.old.bytes ++ end.now) self.new.group result }
+        ensures keeps { KeepsThePromise self.new.group }
+        ensures nothing_is_begun { items_of begun.new.bytes ≡ [] }
+    {
+        let reply = self.play(begun.ended(end));
+        begun.clear();
+        reply
     }
 }
