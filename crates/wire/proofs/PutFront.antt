@@ -54,7 +54,7 @@ put_behind n a b old buf part long room is put =
 
 -- bytes at the front of a buffer, and zero bytes behind them
 module _ (bytes : List ℕ) where
-  zero_behind : (room k : ℕ) → length bytes ≤ k → get_or (zero_filled bytes room) k 0 ≡ 0
+  pub zero_behind : (room k : ℕ) → length bytes ≤ k → get_or (zero_filled bytes room) k 0 ≡ 0
   zero_behind room k le =
       let zeros : List ℕ = replicate (room - length bytes) 0 in
       get_or-append_right bytes zeros (length bytes) k 0 refl le
