@@ -2,8 +2,8 @@
 ghost use Rattle.std.specs.Prelude.{◌≡◌, IfOk};
 ghost use Rattle.board_bench.specs.Asking.{asked_with, asked_by, asked_in};
 
+use crate::numbers::numbers;
 use board::Settings;
-use numerals::numbers;
 use std::alloc::{AllocError, Global};
 use vote::Method;
 

@@ -10,6 +10,7 @@ mod asked;
 mod decided;
 mod fitting;
 mod lines;
+mod numbers;
 mod place;
 mod posts;
 mod said;

@@ -12,7 +12,7 @@ const MAX_NUMBERS: usize = 60;
 pub type Numbers = Fixed<u16, MAX_NUMBERS>;
 
 // The numbers that the bytes write, if they write such. Each number but the last takes two bytes at least.
-// It stands beside `numbers` of `numerals`, which fills a Vec: nothing is allocated below the programs, and one function over both would need
+// It stands beside the `numbers` of two programs, which fills a Vec: nothing is allocated below the programs, and one function over both would need
 // a clause on what it has put in, longer than these five lines.
 pub(crate) fn read_numbers(bytes: &[u8]) -> Option<Numbers>
     requires { length bytes.now < 120 }

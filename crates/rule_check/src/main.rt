@@ -7,6 +7,7 @@
 
 mod answer;
 mod lines;
+mod numbers;
 mod reply;
 
 use answer::{Answer, answer_to};

@@ -5,7 +5,7 @@ ghost use Rattle.rule_check.specs.Lines.{asked_by, asked_in, count_asked, listed
 ghost use Rattle.rule_check.specs.Replies.{Replies};
 ghost use Rattle.rule_check.specs.declared.reply.NoRule.TheVariants.{Refused};
 
-use numerals::numbers;
+use crate::numbers::numbers;
 use quorum::{EitherRule, RuleFault};
 use std::alloc::{AllocError, Global};
 use std::fmt;

@@ -3,8 +3,8 @@ use Rattle.std.proofs.Common.{rules, ℕ, ◌≡◌, ◌∙◌, List, [], ◌∷
 use Rattle.numerals.specs.Numerals.{and_then, number_in, numbers_in}
 use Rattle.numerals.specs.Parts.{field_in}
 use Rattle.numerals.proofs.Fields.{led, field_led, last_led}
-use Rattle.numerals.proofs.list.numbers.Goals as goal
-use Rattle.numerals.proofs.list.numbers.Goals.{In_default}
+use Rattle.rule_check.proofs.numbers.numbers.Goals as goal
+use Rattle.rule_check.proofs.numbers.numbers.Goals.{In_default}
 
 -- what is left, where no field leads it, is read to the end
 last : (c : In_default) (o : Option ℕ) → o ≡ number_in c.loop-value.left.now → and_then o (λ v. Some (vec_items c.loop-value.done ++ v ∷ [])) ≡ numbers_in c.args.bytes.now

@@ -2,7 +2,7 @@
 use Rattle.std.proofs.Common.{◌≡◌, length, vec_items}
 use Rattle.numerals.specs.Numerals.{numbers_in}
 use Rattle.numerals.proofs.Fields.{led}
-use Rattle.numerals.proofs.list.numbers.Given as goal
+use Rattle.rule_check.proofs.numbers.numbers.Given as goal
 
 abbrev pub invariant-loop-value : goal.invariant-loop-value
 invariant-loop-value l = led (vec_items l.done) (numbers_in l.left) ≡ numbers_in l.bytes

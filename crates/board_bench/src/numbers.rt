@@ -1,9 +1,8 @@
-// Numbers with commas between.
+// Numbers with commas between. Here and in `rule_check`, so that nothing below the programs allocates.
 ghost use Rattle.std.specs.Prelude.{◌≡◌, IfOk, Some, None, MatchOption};
 ghost use Rattle.numerals.specs.Numerals.{numbers_in};
 
-use crate::digits::number;
-use crate::field::read_field;
+use numerals::{number, read_field};
 use std::alloc::{AllocError, Global};
 
 // The numbers that the bytes write with single commas between, if they write such. Of a part that writes none no more than six bytes are read.
