@@ -1,6 +1,6 @@
 // Plays a whole harbour from session lines: standard input has the lines, and for each an answer is printed.
 //
-// What a line does and how its answer is written is proved in `session`, where it ends in `cut`; here is only what no contract can speak of: input is
+// What a line does and how its answer is written is proved in `session`, and where a line ends in `cut`; here is only what no contract can speak of: input is
 // read and answers are printed.
 
 #![tactic(auto)]

@@ -1,4 +1,4 @@
-// Numbers as lines write them: in base ten, without leading zeros, at most 65535, and with commas between.
+// Numbers as lines write them: in base ten, without leading zeros, at most 65535, alone or ended by a comma.
 
 #![tactic(auto)]
 
